@@ -1,13 +1,14 @@
 -- What a running term waits for: which rule applies, and at which cell.
 use mathlib.Core.Bool.{Bool, true, false, cond, _&&_, _||_}
 use mathlib.Core.List.{List, [], _∷_}
-use Prim.Native.Nat.{ℕ, suc}
+use Prim.Native.Nat.{ℕ}
 use lib.Dec.{eqb, ltb}
 use lib.ListN.{length}
 use Rattle.std.specs.declared.option.Option.{Option}
 use Rattle.std.specs.declared.option.Option.the-variants.{Some, None}
 use Rattle.std.specs.declared.result.Result.{Result}
 use Rattle.std.specs.declared.result.Result.the-variants.{Ok, Err}
+use Rattle.trees.specs.Failing.{first-failing}
 use Rattle.trees.specs.Reach.{ends}
 use Rattle.calculus.specs.Letters.{allowed, arity}
 use Rattle.calculus.specs.declared.cells.TermCell.{TermCell}
@@ -47,11 +48,6 @@ told Done = Ok None
 told (Redex r k) = Ok (Some (r, k))
 told (Stuck k) = Err (NoRule k)
 
--- the first cell, counted from `at`, with an unknown letter or an argument that is not allowed
-abbrev pub first-unallowed : List TermCell → ℕ → Option ℕ
-first-unallowed [] at = None
-first-unallowed (c ∷ cs) at = cond (allowed c) (first-unallowed cs (suc at)) (Some at)
-
 -- the tests of cells that may be a running term: not too many, each allowed, exactly one tree
 abbrev one-tree : ℕ → Option ℕ → Result (Unit {0}) FindFault
 one-tree n None = Err (NotWhole 0)
@@ -62,7 +58,7 @@ past-letters cs None = one-tree (length cs) (ends arity 1 cs 0)
 past-letters cs (Some k) = Err (BadCell k)
 
 abbrev pub tested : List TermCell → Result (Unit {0}) FindFault
-tested cs = cond (ltb 1024 (length cs)) (Err (TooManyCells 1024)) (past-letters cs (first-unallowed cs 0))
+tested cs = cond (ltb 1024 (length cs)) (Err (TooManyCells 1024)) (past-letters cs (first-failing allowed cs 0))
 
 -- the ops of the cells begin with the letters of the word
 abbrev pub spelt : List ℕ → List TermCell → Bool

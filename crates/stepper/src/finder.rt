@@ -4,11 +4,11 @@ ghost use mathlib.Core.List.{_∷_};
 ghost use mathlib.Core.Path.{_≡_};
 ghost use Prim.Native.Nat.{_≤_};
 ghost use lib.ListN.{drop, getD};
-ghost use Rattle.calculus.specs.Letters.{arity};
+ghost use Rattle.calculus.specs.Letters.{allowed, arity};
 ghost use Rattle.trees.specs.Reach.{ends};
 ghost use Rattle.std.specs.Results.{Cases};
 ghost use Rattle.std.specs.declared.result.Result.the-variants.{Err};
-ghost use Rattle.stepper.specs.Finding.{first-unallowed, given, spelt, operand-word, blank, applied-of, branched-of, opened-of, end-or, tested, told};
+ghost use Rattle.stepper.specs.Finding.{given, spelt, operand-word, blank, applied-of, branched-of, opened-of, end-or, tested, told};
 use crate::works::FindFault;
 use crate::works::Rule;
 use crate::works::Work;
@@ -16,6 +16,8 @@ use calculus::MOST_RUNNING_CELLS;
 use calculus::TermCell;
 use calculus::TermCellCell;
 use calculus::is_allowed;
+use trees::Test;
+use trees::first_failing;
 use trees::reach;
 
 // Whether the ops from `at` on begin with the letters of a word.
@@ -35,16 +37,16 @@ fn spells(cells: &[TermCell], at: usize, word: &[char]) -> bool
     true
 }
 
-// The first cell with an unknown op or an argument that its op does not allow.
-fn first_unallowed(cells: &[TermCell]) -> Option<usize>
-    ensures { λ r. ⌜ r ≡ first-unallowed (now (cells .entry)) 0 ⌝ }
-{
-    for at in 0..cells.len() {
-        if !is_allowed(cells[at]) {
-            return Some(at);
-        }
+// The test of a known op with an argument that it allows.
+#[derive(Drop)]
+struct Allowed;
+
+impl Test<TermCell> for Allowed as AllowedTest {
+    ghost holds = { λ _. allowed };
+
+    fn passes(&self, cell: TermCell) -> bool {
+        is_allowed(cell)
     }
-    None
 }
 
 // Whether the tree at `at` is as many qubits as the gate of a number takes.
@@ -168,7 +170,7 @@ fn test_cells(cells: &[TermCell]) -> Result<(), FindFault>
     if cells.len() > MOST_RUNNING_CELLS {
         return Err(FindFault::TooManyCells(MOST_RUNNING_CELLS));
     }
-    if let Some(cell) = first_unallowed(cells) {
+    if let Some(cell) = first_failing(&Allowed, cells) {
         return Err(FindFault::BadCell(cell));
     }
     let Some(end) = reach(cells, 0) else {
