@@ -49,6 +49,10 @@ module _ {C : Type 0} (m : Meaning C) (depth : RegisterReason → ℕ) where
       (cond (not (all-live (m .live) on)) (refused depth NotLive)
       (cond (not (distinct on)) (refused depth GivenTwice) (Ok tt)))))
 
+  -- whether a handle may be read
+  abbrev pub read-allowed : ℕ → Result (Unit {0}) RegisterFault
+  read-allowed h = cond (eqb (m .pulses) 0) (refused depth NoPulses) (cond (getD (m .live) h false) (Ok tt) (refused depth NotLive))
+
   abbrev pub read-answer : ℕ → Bool → Result Bool RegisterFault
   read-answer h outcome = cond (eqb (m .pulses) 0) (refused depth NoPulses) (cond (getD (m .live) h false) (Ok outcome) (refused depth NotLive))
 

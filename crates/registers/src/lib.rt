@@ -2,7 +2,12 @@
 
 mod cap;
 mod fault;
+mod handles;
+mod journal;
+mod level;
+mod places;
 mod register;
+mod tape;
 
 pub use cap::Cap;
 pub use cap::CapRegister;
@@ -14,4 +19,12 @@ pub use fault::RegisterReason;
 pub use fault::RegisterReasonDebug;
 pub use fault::RegisterReasonEq;
 pub use fault::RegisterReasonPartialEq;
+pub use journal::Entry;
+pub use journal::EntryDebug;
+pub use journal::EntryEq;
+pub use journal::EntryPartialEq;
+pub use level::Level;
+pub use level::LevelRegister;
 pub use register::Register;
+pub use tape::Tape;
+pub use tape::TapeRegister;
