@@ -78,8 +78,8 @@ impl Handles {
         ensures answer { λ r. ⌜ r ≡ prepare-answer (bare (now (self .entry)) (λ _. true) pulses) at-top (next-handle (now (self .entry))) ⌝ }
         ensures state { λ r. ⌜ Cases r
             (λ h. (places (now (self .exit) .live) ≡ set (places (now (self .entry) .live)) h true)
-                × (now (self .exit) .capacity ≡ now (self .entry) .capacity)
-                × (now (self .exit) .next ≡ h + 1))
+            × (now (self .exit) .capacity ≡ now (self .entry) .capacity)
+            × (now (self .exit) .next ≡ h + 1))
             (λ _. now (self .exit) ≡ now (self .entry)) ⌝ }
     {
         if pulses == 0 {
@@ -95,7 +95,13 @@ impl Handles {
     }
 
     /// Whether a gate may be applied, made or not, to the handles.
-    pub fn allow_gate(&self, pulses: u64, made: bool, gate: Gate, on: &[u8]) -> Result<(), RegisterFault>
+    pub fn allow_gate(
+        &self,
+        pulses: u64,
+        made: bool,
+        gate: Gate,
+        on: &[u8],
+    ) -> Result<(), RegisterFault>
         ensures { λ r. ⌜ r ≡ gate-answer (bare (now (self .entry)) (λ _. made) pulses) at-top gate (now (on .entry)) ⌝ }
     {
         if pulses == 0 {
@@ -134,8 +140,8 @@ impl Handles {
         ensures answer { λ r. ⌜ r ≡ let-go-answer (bare (now (self .entry)) (λ _. true) 0) at-top handle ⌝ }
         ensures state { λ r. ⌜ Cases r
             (λ _. (places (now (self .exit) .live) ≡ set (places (now (self .entry) .live)) handle false)
-                × (now (self .exit) .capacity ≡ now (self .entry) .capacity)
-                × (now (self .exit) .next ≡ now (self .entry) .next))
+            × (now (self .exit) .capacity ≡ now (self .entry) .capacity)
+            × (now (self .exit) .next ≡ now (self .entry) .next))
             (λ _. now (self .exit) ≡ now (self .entry)) ⌝ }
     {
         if !self.is_live(handle) {

@@ -115,7 +115,8 @@ pub impl Register for Level as LevelRegister {
     }
 
     fn gate(&mut self, gate: Gate, on: &[u8]) -> Result<(), RegisterFault> {
-        self.handles.allow_gate(self.pulses, self.makes(gate), gate, on)?;
+        self.handles
+            .allow_gate(self.pulses, self.makes(gate), gate, on)?;
         apply(&mut self.bits, gate, on);
         self.pulses -= 1;
         Ok(())

@@ -70,7 +70,10 @@ pub impl<'a> Register for Tape<'a> as TapeRegister {
     }
 
     fn pulses(&self) -> u64 {
-        self.outcomes.len().min(self.journal.len()).saturating_sub(self.spent) as u64
+        self.outcomes
+            .len()
+            .min(self.journal.len())
+            .saturating_sub(self.spent) as u64
     }
 
     fn prepare(&mut self, bit: bool) -> Result<u8, RegisterFault> {

@@ -9,8 +9,9 @@ pub loop-value-again : need.loop-value-again
 loop-value-again c =
     let e = at-drop-more counted (c .args .table .now) (c .loop-value .value-index) false (c .loop-value-test .taken) in
     elim (c .if-value .came) [
-      then-value w ↦ let f = simp (w .if-value .taken) at e in (omega (arith, w .n-is), omega (arith, w .n-is))
-    | else-value w ↦ let f = simp (w .if-value .left) at e in (omega (arith, w .n-is), omega (arith, w .n-is)) ]
+      | then-value w ↦ let f = simp (w .if-value .taken) at e in (omega (arith, w .n-is), omega (arith, w .n-is))
+      | else-value w ↦ let f = simp (w .if-value .left) at e in (omega (arith, w .n-is), omega (arith, w .n-is))
+    ]
 
 pub returns : need.returns
 returns c = let e = at-drop-all counted (c .args .table .now) (c .loop-value .value-index) (c .loop-value-test .left) in omega arith

@@ -1,6 +1,9 @@
 use mathlib.Core.Bool.{false}
+use mathlib.Core.Logic.{⊎-elim}
 use native.Mathlib.Omega.{arith}
 use Rattle.std.proofs.shelf.Lists.{at-drop-more, at-drop-all}
+use Rattle.std.proofs.shelf.Tests.{cases-lt}
+use lib.ListN.{length}
 use Rattle.registers.specs.Handles.{first-free}
 use Rattle.registers.proofs.places.free_from.Needs as need
 
@@ -16,5 +19,6 @@ loop-i-again c =
 
 pub returns : need.returns
 returns c =
-    let e = at-drop-all first-free (c .args .table .now) (c .loop-i .i) (c .loop-i-test .left) in
-    omega (arith, c .loop-i .inv)
+    let table = c .args .table .now in
+    let e = at-drop-all first-free table (c .loop-i .i) (c .loop-i-test .left) in
+    ⊎-elim (λ under. omega (arith, c .loop-i .inv)) (λ past. let f = at-drop-all first-free table (c .args .start) past in omega (arith, c .loop-i .inv)) (cases-lt (c .args .start) (length table))
