@@ -5,7 +5,7 @@ use Prim.Native.Nat.{ℕ, _+_}
 use lib.ListN.{getD, set}
 use Rattle.calculus.specs.declared.gates.Gate.{Gate}
 use Rattle.calculus.specs.declared.gates.Gate.the-variants.{H, X, Z, S, T, Cnot, Swap, Toffoli}
-use Rattle.registers.specs.declared.handles.Handles.{Handles}
+use Rattle.registers.specs.declared.level.Level.{Level}
 use Rattle.registers.specs.Meaning.{Meaning, Changes, none-live}
 use Rattle.registers.specs.Handles.{shown}
 
@@ -53,5 +53,8 @@ level-changes = record {
   cleared = λ c. record { bits = none-live; next = c .next };
 }
 
-abbrev pub level-meaning : Handles → List Bool → ℕ → Meaning Bits
-level-meaning s bits pulses = shown s level-makes pulses (record { bits = bits; next = s .next })
+abbrev pub level-bits : Level → Bits
+level-bits s = record { bits = s .bits; next = s .handles .next }
+
+abbrev pub level-meaning : Level → Meaning Bits
+level-meaning s = shown (s .handles) level-makes (s .pulses) (level-bits s)

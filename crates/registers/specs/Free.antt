@@ -20,7 +20,8 @@ places-wide l = simp (length-take, length-append) (omega (arith, length-replicat
 counted-take : (n : ℕ) (l : List Bool) → counted (take n l) ≤ counted l
 counted-take zero l = omega arith
 counted-take (suc n) [] = omega arith
-counted-take (suc n) (b ∷ l) = let h = counted-take n l in omega arith
+counted-take (suc n) (true ∷ l) = let h = counted-take n l in omega arith
+counted-take (suc n) (false ∷ l) = counted-take n l
 
 free-at : (l : List Bool) → getD l (first-free l) false ≡ false
 free-at [] = refl

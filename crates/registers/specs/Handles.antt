@@ -38,6 +38,10 @@ next-handle s = next-free (take (room s) (places (s .live))) (s .next)
 abbrev pub shown : {C : Type 0} → Handles → (Gate → Bool) → ℕ → C → Meaning C
 shown s makes pulses content = record { capacity = room s; makes = makes; live = places (s .live); pulses = pulses; content = content }
 
+-- a new register: nothing is live, and a capacity above 32 is 32
+abbrev pub unused : {C : Type 0} → ℕ → (Gate → Bool) → ℕ → C → Meaning C
+unused capacity makes pulses content = record { capacity = min capacity 32; makes = makes; live = none-live; pulses = pulses; content = content }
+
 -- a register of nothing but its handles
 abbrev pub bare : Handles → (Gate → Bool) → ℕ → Meaning (Unit {0})
 bare s makes pulses = shown s makes pulses tt

@@ -4,11 +4,12 @@ use mathlib.Core.List.{List, [], _∷_}
 use Prim.Native.Nat.{ℕ, _+_, _-_, _%_, min}
 use lib.Dec.{eqb}
 use lib.ListN.{length, getD, set}
-use Rattle.registers.specs.declared.handles.Handles.{Handles}
+use Rattle.registers.specs.declared.tape.Tape.{Tape}
+use Rattle.calculus.specs.declared.gates.Gate.{Gate}
 use Rattle.registers.specs.declared.journal.Entry.{Entry}
 use Rattle.registers.specs.declared.journal.Entry.the-variants.{Empty, Prepare, Gate as Gated, Read}
 use Rattle.registers.specs.Meaning.{Meaning, Changes}
-use Rattle.registers.specs.Handles.{shown}
+use Rattle.registers.specs.Handles.{shown, unused}
 
 pub record Reel : Type 0 where
   pub outcomes : List ℕ
@@ -41,8 +42,16 @@ pulses-left c = min (length (c .outcomes)) (length (c .entries)) - c .spent
 abbrev pub outcome-next : Reel → Bool
 outcome-next c = eqb (getD (c .outcomes) (c .spent) 0 % 2) 1
 
-abbrev pub reel : List ℕ → List Entry → ℕ → ℕ → Reel
-reel outcomes entries spent next = record { outcomes = outcomes; entries = entries; spent = spent; next = next }
+abbrev pub tape-reel : Tape → Reel
+tape-reel s = record { outcomes = s .outcomes .now; entries = s .journal .now; spent = s .spent; next = s .handles .next }
 
-abbrev pub tape-meaning : Handles → Reel → Meaning Reel
-tape-meaning s c = shown s (λ _. true) (pulses-left c) c
+abbrev pub tape-makes : Gate → Bool
+tape-makes _ = true
+
+abbrev pub tape-meaning : Tape → Meaning Reel
+tape-meaning s = shown (s .handles) tape-makes (pulses-left (tape-reel s)) (tape-reel s)
+
+-- a tape as made: as many pulses as the shorter of outcomes and journal
+abbrev pub new-tape : ℕ → List ℕ → List Entry → Meaning Reel
+new-tape capacity outcomes entries =
+    unused capacity tape-makes (min (length outcomes) (length entries)) (record { outcomes = outcomes; entries = entries; spent = 0; next = 0 })

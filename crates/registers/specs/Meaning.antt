@@ -1,8 +1,8 @@
 -- What a register means, and what each accepted call makes of it.
 use mathlib.Core.Path.{_≡_}
-use mathlib.Core.Bool.{Bool, true, false, cond}
+use mathlib.Core.Bool.{Bool, true, false}
 use mathlib.Core.List.{List, [], _∷_}
-use Prim.Native.Nat.{ℕ, _+_, _-_, _<_, _≤_}
+use Prim.Native.Nat.{ℕ, suc, _-_, _<_, _≤_}
 use lib.ListN.{length, getD, set, replicate}
 use Rattle.calculus.specs.declared.gates.Gate.{Gate}
 
@@ -25,10 +25,14 @@ pub record Changes (Content : Type 0) : Type 0 where
 -- how many handles are live
 abbrev pub counted : List Bool → ℕ
 counted [] = 0
-counted (b ∷ bs) = cond b 1 0 + counted bs
+counted (true ∷ bs) = suc (counted bs)
+counted (false ∷ bs) = counted bs
 
 abbrev pub none-live : List Bool
 none-live = replicate 32 false
+
+abbrev pub Live : {C : Type 0} → Meaning C → ℕ → Type 0
+Live m h = getD (m .live) h false ≡ true
 
 -- The handle that a prepare answers is free to each register, but for this: with a pulse left and room it is below 32 and not live.
 abbrev pub Fresh : {C : Type 0} → Meaning C → ℕ → Type 0

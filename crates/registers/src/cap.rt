@@ -18,7 +18,8 @@ pub struct Cap<R> {
 impl<R: Register> Cap<R> {
     /// Clears the register and puts the limit over it.
     pub fn new(mut below: R, limit: usize) -> Cap<R>
-        ensures { λ r. ⌜ capped (r .limit) (R·Register .meaning (r .below)) ≡ capped limit (after-clear (R·Register .changes) (R·Register .meaning below)) ⌝ }
+        ensures limit { λ r. ⌜ r .limit ≡ limit ⌝ }
+        ensures below { λ r. ⌜ R·Register .meaning (r .below) ≡ after-clear (R·Register .changes) (R·Register .meaning below) ⌝ }
     {
         below.clear();
         Cap { below, limit }

@@ -1,11 +1,10 @@
 //! A register of classical bits.
 
 ghost use mathlib.Core.Path.{_≡_};
-ghost use Prim.Native.Nat.{min};
 ghost use Rattle.registers.specs.Meaning.{none-live};
-ghost use Rattle.registers.specs.Handles.{next-handle, at-top};
+ghost use Rattle.registers.specs.Handles.{next-handle, unused, at-top};
 ghost use Rattle.registers.specs.Free.{handles-owed};
-ghost use Rattle.registers.specs.Bits.{Bits, bit-of, flipped, exchanged, level-makes, bits-gated, level-changes, level-meaning};
+ghost use Rattle.registers.specs.Bits.{Bits, bit-of, flipped, exchanged, level-makes, bits-gated, level-changes, level-bits, level-meaning};
 use crate::fault::RegisterFault;
 use crate::handles::Handles;
 use crate::places::holds;
@@ -26,7 +25,7 @@ pub struct Level {
 impl Level {
     /// No live qubit, every bit 0; a capacity above 32 is 32.
     pub fn new(capacity: usize, pulses: u64) -> Level
-        ensures { λ r. ⌜ level-meaning (r .handles) (r .bits) (r .pulses) ≡ record { capacity = min capacity 32; makes = level-makes; live = none-live; pulses = pulses; content = record { bits = none-live; next = 0 } } ⌝ }
+        ensures { λ r. ⌜ level-meaning r ≡ unused capacity level-makes pulses (record { bits = none-live; next = 0 }) ⌝ }
     {
         Level {
             handles: Handles::new(capacity),
@@ -74,7 +73,7 @@ pub impl Register for Level as LevelRegister {
 
     ghost changes = { level-changes };
 
-    ghost meaning = { λ s. level-meaning (s .handles) (s .bits) (s .pulses) };
+    ghost meaning = { level-meaning };
 
     ghost fresh = { λ s. next-handle (s .handles) };
 
@@ -82,7 +81,7 @@ pub impl Register for Level as LevelRegister {
 
     ghost depth = { λ _. at-top };
 
-    ghost owed = { λ s. handles-owed (s .handles) level-makes (s .pulses) (record { bits = s .bits; next = s .handles .next }) };
+    ghost owed = { λ s. handles-owed (s .handles) level-makes (s .pulses) (level-bits s) };
 
     fn capacity(&self) -> usize {
         self.handles.capacity()

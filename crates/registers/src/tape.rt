@@ -1,13 +1,9 @@
 //! A register that answers the outcomes it was handed and writes down what each pulse did.
 
 ghost use mathlib.Core.Path.{_≡_};
-ghost use mathlib.Core.Bool.{true};
-ghost use Prim.Native.Nat.{min};
-ghost use lib.ListN.{length};
-ghost use Rattle.registers.specs.Meaning.{none-live};
 ghost use Rattle.registers.specs.Handles.{next-handle, at-top};
 ghost use Rattle.registers.specs.Free.{handles-owed};
-ghost use Rattle.registers.specs.Journal.{Reel, reel, pulses-left, outcome-next, tape-changes, tape-meaning};
+ghost use Rattle.registers.specs.Journal.{Reel, pulses-left, outcome-next, tape-changes, tape-reel, tape-makes, tape-meaning, new-tape};
 use crate::fault::RegisterFault;
 use crate::handles::Handles;
 use crate::journal::Entry;
@@ -27,7 +23,7 @@ pub struct Tape<'a> {
 impl<'a> Tape<'a> {
     /// No live qubit; as many pulses as the shorter of outcomes and journal; a capacity above 32 is 32.
     pub fn new(capacity: usize, outcomes: &'a [u8], journal: &'a mut [Entry]) -> Tape<'a>
-        ensures { λ r. ⌜ tape-meaning (r .handles) (reel (now (r .outcomes)) (now (r .journal)) (r .spent) (r .handles .next)) ≡ record { capacity = min capacity 32; makes = λ _. true; live = none-live; pulses = min (length (now (outcomes .entry))) (length (now (journal .entry))); content = reel (now (outcomes .entry)) (now (journal .entry)) 0 0 } ⌝ }
+        ensures { λ r. ⌜ tape-meaning r ≡ new-tape capacity (now (outcomes .entry)) (now (journal .entry)) ⌝ }
     {
         Tape {
             handles: Handles::new(capacity),
@@ -43,15 +39,15 @@ pub impl<'a> Register for Tape<'a> as TapeRegister {
 
     ghost changes = { tape-changes };
 
-    ghost meaning = { λ s. tape-meaning (s .handles) (reel (s .outcomes .now) (s .journal .now) (s .spent) (s .handles .next)) };
+    ghost meaning = { tape-meaning };
 
     ghost fresh = { λ s. next-handle (s .handles) };
 
-    ghost outcome = { λ s _. outcome-next (reel (s .outcomes .now) (s .journal .now) (s .spent) (s .handles .next)) };
+    ghost outcome = { λ s _. outcome-next (tape-reel s) };
 
     ghost depth = { λ _. at-top };
 
-    ghost owed = { λ s. handles-owed (s .handles) (λ _. true) (pulses-left (reel (s .outcomes .now) (s .journal .now) (s .spent) (s .handles .next))) (reel (s .outcomes .now) (s .journal .now) (s .spent) (s .handles .next)) };
+    ghost owed = { λ s. handles-owed (s .handles) tape-makes (pulses-left (tape-reel s)) (tape-reel s) };
 
     fn capacity(&self) -> usize {
         self.handles.capacity()
