@@ -28,7 +28,7 @@ pub enum CheckFault {
 
 impl CheckFault {
     /// The fault's number.
-    pub fn number(self) -> u8
+    pub fn number(self) -> u16
         ensures { λ r. ⌜ r ≡ fault-number self ⌝ }
     {
         match self {

@@ -79,7 +79,7 @@ pub enum FindFault {
 
 impl FindFault {
     /// The fault's number.
-    pub fn number(self) -> u8
+    pub fn number(self) -> u16
         ensures { λ r. ⌜ r ≡ fault-number self ⌝ }
     {
         match self {

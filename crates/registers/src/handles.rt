@@ -1,0 +1,160 @@
+//! The live handles of a register that is no layer, and which handle is answered next.
+
+ghost use mathlib.Core.Path.{_≡_};
+ghost use mathlib.Core.Bool.{true, false};
+ghost use Prim.Native.Nat.{_+_, min};
+ghost use lib.ListN.{getD, set};
+ghost use Rattle.std.specs.Results.{Cases};
+ghost use Rattle.registers.specs.Meaning.{counted, none-live};
+ghost use Rattle.registers.specs.Answers.{prepare-answer, gate-answer, read-allowed, let-go-answer};
+ghost use Rattle.registers.specs.Handles.{places, room, next-handle, bare, at-top};
+use crate::fault::RegisterFault;
+use crate::fault::RegisterReason;
+use crate::places::are_distinct;
+use crate::places::count;
+use crate::places::free_from;
+use crate::places::holds;
+use crate::places::holds_all;
+use crate::places::put;
+use calculus::Gate;
+use calculus::HANDLES;
+
+/// Which handles are live, how many may be, and where the search for the next one begins.
+#[derive(Drop)]
+pub struct Handles {
+    live: [bool; HANDLES],
+    capacity: usize,
+    next: usize,
+}
+
+impl Handles {
+    /// No live handle; a capacity above 32 is 32.
+    pub fn new(capacity: usize) -> Handles
+        ensures { λ r. ⌜ r ≡ record { live = none-live; capacity = min capacity 32; next = 0 } ⌝ }
+    {
+        Handles {
+            live: [false; HANDLES],
+            capacity: capacity.min(HANDLES),
+            next: 0,
+        }
+    }
+
+    /// How many handles may be live.
+    pub fn capacity(&self) -> usize
+        ensures { λ r. ⌜ r ≡ room (now (self .entry)) ⌝ }
+    {
+        self.capacity.min(HANDLES)
+    }
+
+    /// Whether a handle is live.
+    pub fn is_live(&self, handle: u8) -> bool
+        ensures { λ r. ⌜ r ≡ getD (places (now (self .entry) .live)) handle false ⌝ }
+    {
+        holds(&self.live, handle)
+    }
+
+    /// How many handles are live.
+    pub fn live_count(&self) -> usize
+        ensures { λ r. ⌜ r ≡ counted (places (now (self .entry) .live)) ⌝ }
+    {
+        count(&self.live)
+    }
+
+    // The next handle above the last answered that is not live, going round below the capacity.
+    fn next_handle(&self) -> usize
+        ensures { λ r. ⌜ r ≡ next-handle (now (self .entry)) ⌝ }
+    {
+        let below = &self.live[0..self.capacity()];
+        let above = free_from(below, self.next);
+        if above < below.len() {
+            above
+        } else {
+            free_from(below, 0)
+        }
+    }
+
+    /// Makes the next handle live and answers it, if a pulse is left and there is room.
+    pub fn prepare(&mut self, pulses: u64) -> Result<u8, RegisterFault>
+        ensures answer { λ r. ⌜ r ≡ prepare-answer (bare (now (self .entry)) (λ _. true) pulses) at-top (next-handle (now (self .entry))) ⌝ }
+        ensures state { λ r. ⌜ Cases r
+            (λ h. (places (now (self .exit) .live) ≡ set (places (now (self .entry) .live)) h true)
+            × (now (self .exit) .capacity ≡ now (self .entry) .capacity)
+            × (now (self .exit) .next ≡ h + 1))
+            (λ _. now (self .exit) ≡ now (self .entry)) ⌝ }
+    {
+        if pulses == 0 {
+            return Err(RegisterFault::new(RegisterReason::NoPulses));
+        }
+        if self.live_count() >= self.capacity() {
+            return Err(RegisterFault::new(RegisterReason::Full));
+        }
+        let handle = self.next_handle();
+        self.live[handle] = true;
+        self.next = handle + 1;
+        Ok(handle as u8)
+    }
+
+    /// Whether a gate may be applied, made or not, to the handles.
+    pub fn allow_gate(
+        &self,
+        pulses: u64,
+        made: bool,
+        gate: Gate,
+        on: &[u8],
+    ) -> Result<(), RegisterFault>
+        ensures { λ r. ⌜ r ≡ gate-answer (bare (now (self .entry)) (λ _. made) pulses) at-top gate (now (on .entry)) ⌝ }
+    {
+        if pulses == 0 {
+            return Err(RegisterFault::new(RegisterReason::NoPulses));
+        }
+        if !made {
+            return Err(RegisterFault::new(RegisterReason::GateNotMade));
+        }
+        if on.len() != gate.operands() {
+            return Err(RegisterFault::new(RegisterReason::WrongCount));
+        }
+        if !holds_all(&self.live, on) {
+            return Err(RegisterFault::new(RegisterReason::NotLive));
+        }
+        if !are_distinct(on) {
+            return Err(RegisterFault::new(RegisterReason::GivenTwice));
+        }
+        Ok(())
+    }
+
+    /// Whether a handle may be read.
+    pub fn allow_read(&self, pulses: u64, handle: u8) -> Result<(), RegisterFault>
+        ensures { λ r. ⌜ r ≡ read-allowed (bare (now (self .entry)) (λ _. true) pulses) at-top handle ⌝ }
+    {
+        if pulses == 0 {
+            return Err(RegisterFault::new(RegisterReason::NoPulses));
+        }
+        if !self.is_live(handle) {
+            return Err(RegisterFault::new(RegisterReason::NotLive));
+        }
+        Ok(())
+    }
+
+    /// Takes a live handle out.
+    pub fn let_go(&mut self, handle: u8) -> Result<(), RegisterFault>
+        ensures answer { λ r. ⌜ r ≡ let-go-answer (bare (now (self .entry)) (λ _. true) 0) at-top handle ⌝ }
+        ensures state { λ r. ⌜ Cases r
+            (λ _. (places (now (self .exit) .live) ≡ set (places (now (self .entry) .live)) handle false)
+            × (now (self .exit) .capacity ≡ now (self .entry) .capacity)
+            × (now (self .exit) .next ≡ now (self .entry) .next))
+            (λ _. now (self .exit) ≡ now (self .entry)) ⌝ }
+    {
+        if !self.is_live(handle) {
+            return Err(RegisterFault::new(RegisterReason::NotLive));
+        }
+        put(&mut self.live, handle, false);
+        Ok(())
+    }
+
+    /// Takes every handle out; the search for the next one goes on where it was.
+    pub fn clear(&mut self)
+        ensures { λ _. ⌜ now (self .exit) ≡ record { live = none-live; capacity = now (self .entry) .capacity; next = now (self .entry) .next } ⌝ }
+    {
+        self.live = [false; HANDLES];
+    }
+}
