@@ -29,5 +29,6 @@ next-is s n wide e =
     let f : n - 0 ≡ room s = omega arith in
     ap (λ k. next-free (take k (s .live)) (s .next)) f ∙ ap (λ l. next-free (take (room s) l) (s .next)) (places-are (s .live) wide)
 
-pub next-handle-small : (s : Handles) → counted (places (s .live)) < room s → next-handle s < 32
-next-handle-small s h = let n = next-small (room s) (places (s .live)) (places-wide (s .live)) (omega arith) (s .next) h in omega arith
+-- what the search for the next handle ensures of a place that is the next
+pub next-ensures : (s : Handles) (k : ℕ) → k ≡ next-handle s → record { next : k ≡ next-handle s; below : counted (places (s .live)) < room s → k < 32 }
+next-ensures s k e = record { next = e; below = λ h. let n = next-small (room s) (places (s .live)) (places-wide (s .live)) (omega arith) (s .next) h in omega arith }

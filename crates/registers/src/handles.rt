@@ -2,11 +2,11 @@
 
 ghost use mathlib.Core.Path.{_≡_};
 ghost use mathlib.Core.Bool.{true, false};
-ghost use Prim.Native.Nat.{_+_, min};
+ghost use Prim.Native.Nat.{_+_, _<_, min};
 ghost use lib.ListN.{getD, set};
 ghost use Rattle.std.specs.Results.{Cases};
 ghost use Rattle.registers.specs.Meaning.{counted, none-live};
-ghost use Rattle.registers.specs.Answers.{prepare-answer, gate-answer, read-allowed, let-go-answer};
+ghost use Rattle.registers.specs.Answers.{prepare-answer, gate-answer, read-allowed, let-go-answer, all-live};
 ghost use Rattle.registers.specs.Handles.{places, room, next-handle, bare, at-top};
 use crate::fault::RegisterFault;
 use crate::fault::RegisterReason;
@@ -60,9 +60,17 @@ impl Handles {
         count(&self.live)
     }
 
+    // Whether every handle of a list is live.
+    fn are_live(&self, on: &[u8]) -> bool
+        ensures { λ r. ⌜ r ≡ all-live (places (now (self .entry) .live)) (now (on .entry)) ⌝ }
+    {
+        holds_all(&self.live, on)
+    }
+
     // The next handle above the last answered that is not live, going round below the capacity.
     fn next_handle(&self) -> usize
-        ensures { λ r. ⌜ r ≡ next-handle (now (self .entry)) ⌝ }
+        ensures next { λ r. ⌜ r ≡ next-handle (now (self .entry)) ⌝ }
+        ensures below { λ r. ⌜ (counted (places (now (self .entry) .live)) < room (now (self .entry)) → r < 32) ⌝ }
     {
         let below = &self.live[0..self.capacity()];
         let above = free_from(below, self.next);
@@ -113,7 +121,7 @@ impl Handles {
         if on.len() != gate.operands() {
             return Err(RegisterFault::new(RegisterReason::WrongCount));
         }
-        if !holds_all(&self.live, on) {
+        if !self.are_live(on) {
             return Err(RegisterFault::new(RegisterReason::NotLive));
         }
         if !are_distinct(on) {

@@ -32,6 +32,13 @@ impl<'a> Tape<'a> {
             spent: 0,
         }
     }
+
+    /// The journal as it stands: entry k says what pulse k did, and those of pulses to come are as they were handed.
+    pub fn journal(&self) -> &[Entry]
+        ensures { λ r. ⌜ now r ≡ tape-reel (now (self .entry)) .entries ⌝ }
+    {
+        self.journal
+    }
 }
 
 pub impl<'a> Register for Tape<'a> as TapeRegister {
