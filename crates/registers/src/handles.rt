@@ -2,7 +2,7 @@
 
 ghost use mathlib.Core.Path.{_≡_};
 ghost use mathlib.Core.Bool.{true, false};
-ghost use Prim.Native.Nat.{_+_, _<_, min};
+ghost use Prim.Native.Nat.{_+_, _<_};
 ghost use lib.ListN.{getD, set};
 ghost use Rattle.std.specs.Results.{Cases};
 ghost use Rattle.registers.specs.Meaning.{counted, none-live};
@@ -30,11 +30,11 @@ pub struct Handles {
 impl Handles {
     /// No live handle; a capacity above 32 is 32.
     pub fn new(capacity: usize) -> Handles
-        ensures { λ r. ⌜ r ≡ record { live = none-live; capacity = min capacity 32; next = 0 } ⌝ }
+        ensures { λ r. ⌜ r ≡ record { live = none-live; capacity = capacity; next = 0 } ⌝ }
     {
         Handles {
             live: [false; HANDLES],
-            capacity: capacity.min(HANDLES),
+            capacity,
             next: 0,
         }
     }
