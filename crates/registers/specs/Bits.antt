@@ -2,12 +2,15 @@
 use mathlib.Core.Bool.{Bool, true, false, cond, not, _&&_}
 use mathlib.Core.List.{List, [], _∷_}
 use Prim.Native.Nat.{ℕ, _+_}
-use lib.ListN.{getD, set}
+use lib.ListN.{getD, set, replicate}
 use Rattle.calculus.specs.declared.gates.Gate.{Gate}
 use Rattle.calculus.specs.declared.gates.Gate.the-variants.{H, X, Z, S, T, Cnot, Swap, Toffoli}
 use Rattle.registers.specs.declared.level.Level.{Level}
-use Rattle.registers.specs.Meaning.{Meaning, Changes, none-live}
+use Rattle.registers.specs.Meaning.{Meaning, Changes}
 use Rattle.registers.specs.Handles.{shown}
+
+abbrev pub zeros : List Bool
+zeros = replicate 32 false
 
 pub record Bits : Type 0 where
   pub bits : List Bool
@@ -50,7 +53,7 @@ level-changes = record {
   gated = λ c gate on. record { bits = bits-gated (c .bits) gate on; next = c .next };
   was-read = λ c h outcome. c;
   let-go = λ c h. record { bits = set (c .bits) h false; next = c .next };
-  cleared = λ c. record { bits = none-live; next = c .next };
+  cleared = λ c. record { bits = zeros; next = c .next };
 }
 
 abbrev pub level-bits : Level → Bits

@@ -33,13 +33,13 @@ free-below [] h = h
 free-below (true ∷ l) h = let r = free-below l (omega arith) in omega arith
 free-below (false ∷ l) h = omega arith
 
-next-at : (l : List Bool) (start : ℕ) → getD l (next-free l start) false ≡ false
+pub next-at : (l : List Bool) (start : ℕ) → getD l (next-free l start) false ≡ false
 next-at l start = cond-both (ltb (free-from l start) (length l)) _ _ (λ k. getD l k false ≡ false) (λ _. from-at start) (λ _. from-at 0)
   where
     from-at : (k : ℕ) → getD l (free-from l k) false ≡ false
     from-at k = sym (getD-drop k l (first-free (drop k l)) false) ∙ free-at (drop k l)
 
-next-below : (l : List Bool) (start : ℕ) → counted l < length l → next-free l start < length l
+pub next-below : (l : List Bool) (start : ℕ) → counted l < length l → next-free l start < length l
 next-below l start h = cond-both (ltb (free-from l start) (length l)) _ _ (λ k. k < length l) (ltb-true _ _) (λ _. let f = free-below l h in omega arith)
 
 -- the places below a number of them

@@ -4,7 +4,7 @@ use mathlib.Core.Bool.{Bool, true, false, cond}
 use mathlib.Core.List.{List, [], _∷_, _++_}
 use Prim.Native.Nat.{ℕ, _+_, min}
 use lib.Dec.{ltb}
-use lib.ListN.{length, take, drop, replicate}
+use lib.ListN.{length, set, take, drop, replicate}
 use Rattle.calculus.specs.declared.gates.Gate.{Gate}
 use Rattle.registers.specs.declared.fault.RegisterReason.{RegisterReason}
 use Rattle.registers.specs.declared.handles.Handles.{Handles}
@@ -29,6 +29,12 @@ places bs = take 32 (bs ++ none-live)
 
 abbrev pub room : Handles → ℕ
 room s = min (s .capacity) 32
+
+-- one handle goes live or is taken out, and the search for the next begins where it is said
+pub record Marked (before after : Handles) (h : ℕ) (live : Bool) (next : ℕ) : Type 0 where
+  pub marked : places (after .live) ≡ set (places (before .live)) h live
+  pub capacity : after .capacity ≡ before .capacity
+  pub begins : after .next ≡ next
 
 -- The handle of the next prepare: the next that is not live above the last answered, going round below the capacity.
 abbrev pub next-handle : Handles → ℕ

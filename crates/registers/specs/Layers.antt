@@ -33,6 +33,10 @@ cap-depth limit count below WrongCount = deeper (below WrongCount)
 cap-depth limit count below NotLive = deeper (below NotLive)
 cap-depth limit count below GivenTwice = deeper (below GivenTwice)
 
+-- a cap over a cap is a cap of the smaller limit
+abbrev pub Caps-merge : Type 0 → Type 0
+Caps-merge C = (inner outer : ℕ) (m : Meaning C) → capped outer (capped inner m) ≡ capped (min outer inner) m
+
 pub capped-owed : {C : Type 0} (limit fresh : ℕ) (m : Meaning C) → Owed m fresh → Owed (capped limit m) fresh
 capped-owed limit fresh m o = record {
   small = let h = o .small in omega arith;

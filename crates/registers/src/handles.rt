@@ -2,12 +2,12 @@
 
 ghost use mathlib.Core.Path.{_≡_};
 ghost use mathlib.Core.Bool.{true, false};
-ghost use Prim.Native.Nat.{_+_, min};
-ghost use lib.ListN.{getD, set};
+ghost use Prim.Native.Nat.{_+_, _≤_};
+ghost use lib.ListN.{length, getD, take};
 ghost use Rattle.std.specs.Results.{Cases};
 ghost use Rattle.registers.specs.Meaning.{counted, none-live};
-ghost use Rattle.registers.specs.Answers.{prepare-answer, gate-answer, read-allowed, let-go-answer};
-ghost use Rattle.registers.specs.Handles.{places, room, next-handle, bare, at-top};
+ghost use Rattle.registers.specs.Answers.{prepare-answer, gate-answer, read-allowed, let-go-answer, all-live};
+ghost use Rattle.registers.specs.Handles.{places, room, Marked, next-handle, bare, at-top};
 use crate::fault::RegisterFault;
 use crate::fault::RegisterReason;
 use crate::places::are_distinct;
@@ -30,11 +30,11 @@ pub struct Handles {
 impl Handles {
     /// No live handle; a capacity above 32 is 32.
     pub fn new(capacity: usize) -> Handles
-        ensures { λ r. ⌜ r ≡ record { live = none-live; capacity = min capacity 32; next = 0 } ⌝ }
+        ensures { λ r. ⌜ r ≡ record { live = none-live; capacity = capacity; next = 0 } ⌝ }
     {
         Handles {
             live: [false; HANDLES],
-            capacity: capacity.min(HANDLES),
+            capacity,
             next: 0,
         }
     }
@@ -60,26 +60,46 @@ impl Handles {
         count(&self.live)
     }
 
+    // Whether every handle of a list is live.
+    fn are_live(&self, on: &[u8]) -> bool
+        ensures { λ r. ⌜ r ≡ all-live (places (now (self .entry) .live)) (now (on .entry)) ⌝ }
+    {
+        holds_all(&self.live, on)
+    }
+
+    // The places of the handles below the capacity.
+    fn below(&self) -> &[bool]
+        ensures these { λ r. ⌜ now r ≡ take (room (now (self .entry))) (places (now (self .entry) .live)) ⌝ }
+        ensures short { λ r. ⌜ length (now r) ≤ 32 ⌝ }
+    {
+        &self.live[0..self.capacity()]
+    }
+
     // The next handle above the last answered that is not live, going round below the capacity.
-    fn next_handle(&self) -> usize
+    fn next_handle(&self) -> u8
         ensures { λ r. ⌜ r ≡ next-handle (now (self .entry)) ⌝ }
     {
-        let below = &self.live[0..self.capacity()];
+        let below = self.below();
         let above = free_from(below, self.next);
         if above < below.len() {
-            above
+            above as u8
         } else {
-            free_from(below, 0)
+            free_from(below, 0) as u8
         }
+    }
+
+    // Makes a handle live, or takes it out.
+    fn mark(&mut self, handle: u8, live: bool)
+        ensures { λ _. ⌜ Marked (now (self .entry)) (now (self .exit)) handle live (now (self .entry) .next) ⌝ }
+    {
+        put(&mut self.live, handle, live);
     }
 
     /// Makes the next handle live and answers it, if a pulse is left and there is room.
     pub fn prepare(&mut self, pulses: u64) -> Result<u8, RegisterFault>
         ensures answer { λ r. ⌜ r ≡ prepare-answer (bare (now (self .entry)) (λ _. true) pulses) at-top (next-handle (now (self .entry))) ⌝ }
         ensures state { λ r. ⌜ Cases r
-            (λ h. (places (now (self .exit) .live) ≡ set (places (now (self .entry) .live)) h true)
-            × (now (self .exit) .capacity ≡ now (self .entry) .capacity)
-            × (now (self .exit) .next ≡ h + 1))
+            (λ h. Marked (now (self .entry)) (now (self .exit)) h true (h + 1))
             (λ _. now (self .exit) ≡ now (self .entry)) ⌝ }
     {
         if pulses == 0 {
@@ -89,9 +109,9 @@ impl Handles {
             return Err(RegisterFault::new(RegisterReason::Full));
         }
         let handle = self.next_handle();
-        self.live[handle] = true;
-        self.next = handle + 1;
-        Ok(handle as u8)
+        self.mark(handle, true);
+        self.next = handle as usize + 1;
+        Ok(handle)
     }
 
     /// Whether a gate may be applied, made or not, to the handles.
@@ -113,7 +133,7 @@ impl Handles {
         if on.len() != gate.operands() {
             return Err(RegisterFault::new(RegisterReason::WrongCount));
         }
-        if !holds_all(&self.live, on) {
+        if !self.are_live(on) {
             return Err(RegisterFault::new(RegisterReason::NotLive));
         }
         if !are_distinct(on) {
@@ -139,15 +159,13 @@ impl Handles {
     pub fn let_go(&mut self, handle: u8) -> Result<(), RegisterFault>
         ensures answer { λ r. ⌜ r ≡ let-go-answer (bare (now (self .entry)) (λ _. true) 0) at-top handle ⌝ }
         ensures state { λ r. ⌜ Cases r
-            (λ _. (places (now (self .exit) .live) ≡ set (places (now (self .entry) .live)) handle false)
-            × (now (self .exit) .capacity ≡ now (self .entry) .capacity)
-            × (now (self .exit) .next ≡ now (self .entry) .next))
+            (λ _. Marked (now (self .entry)) (now (self .exit)) handle false (now (self .entry) .next))
             (λ _. now (self .exit) ≡ now (self .entry)) ⌝ }
     {
         if !self.is_live(handle) {
             return Err(RegisterFault::new(RegisterReason::NotLive));
         }
-        put(&mut self.live, handle, false);
+        self.mark(handle, false);
         Ok(())
     }
 

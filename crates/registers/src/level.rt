@@ -1,10 +1,9 @@
 //! A register of classical bits.
 
 ghost use mathlib.Core.Path.{_≡_};
-ghost use Rattle.registers.specs.Meaning.{none-live};
 ghost use Rattle.registers.specs.Handles.{next-handle, unused, at-top};
 ghost use Rattle.registers.specs.Free.{handles-owed};
-ghost use Rattle.registers.specs.Bits.{Bits, bit-of, flipped, exchanged, level-makes, bits-gated, level-changes, level-bits, level-meaning};
+ghost use Rattle.registers.specs.Bits.{Bits, zeros, bit-of, flipped, exchanged, level-makes, bits-gated, level-changes, level-bits, level-meaning};
 use crate::fault::RegisterFault;
 use crate::handles::Handles;
 use crate::places::holds;
@@ -25,7 +24,7 @@ pub struct Level {
 impl Level {
     /// No live qubit, every bit 0; a capacity above 32 is 32.
     pub fn new(capacity: usize, pulses: u64) -> Level
-        ensures { λ r. ⌜ level-meaning r ≡ unused capacity level-makes pulses (record { bits = none-live; next = 0 }) ⌝ }
+        ensures { λ r. ⌜ level-meaning r ≡ unused capacity level-makes pulses (record { bits = zeros; next = 0 }) ⌝ }
     {
         Level {
             handles: Handles::new(capacity),

@@ -6,6 +6,7 @@ mod handles;
 mod journal;
 mod level;
 mod places;
+mod promises;
 mod register;
 mod tape;
 
@@ -25,6 +26,10 @@ pub use journal::EntryEq;
 pub use journal::EntryPartialEq;
 pub use level::Level;
 pub use level::LevelRegister;
+pub use promises::caps_merge;
+pub use promises::next_is_found;
+pub use promises::refusals_are_exact;
+pub use promises::room_is_kept;
 pub use register::Register;
 pub use tape::Tape;
 pub use tape::TapeRegister;

@@ -2,7 +2,8 @@
 
 ghost use mathlib.Core.Path.{_≡_};
 ghost use mathlib.Core.Bool.{false};
-ghost use lib.ListN.{getD, set};
+ghost use Prim.Native.Nat.{_≤_, max};
+ghost use lib.ListN.{length, getD, set};
 ghost use Rattle.registers.specs.Meaning.{counted};
 ghost use Rattle.registers.specs.Answers.{all-live, among, distinct};
 ghost use Rattle.registers.specs.Handles.{free-from};
@@ -38,7 +39,8 @@ pub fn count(table: &[bool]) -> usize
 
 /// The first place from a start on that is false, or one past the last.
 pub fn free_from(table: &[bool], start: usize) -> usize
-    ensures { λ r. ⌜ r ≡ free-from (now (table .entry)) start ⌝ }
+    ensures place { λ r. ⌜ r ≡ free-from (now (table .entry)) start ⌝ }
+    ensures within { λ r. ⌜ r ≤ max start (length (now (table .entry))) ⌝ }
 {
     for i in start..table.len() {
         if !table[i] {

@@ -1,9 +1,11 @@
 //! A register that answers the outcomes it was handed and writes down what each pulse did.
 
 ghost use mathlib.Core.Path.{_≡_};
+ghost use Prim.Native.Nat.{_<_};
+ghost use lib.ListN.{length};
 ghost use Rattle.registers.specs.Handles.{next-handle, at-top};
 ghost use Rattle.registers.specs.Free.{handles-owed};
-ghost use Rattle.registers.specs.Journal.{Reel, pulses-left, outcome-next, tape-changes, tape-reel, tape-makes, tape-meaning, new-tape};
+ghost use Rattle.registers.specs.Journal.{Reel, filled, pulses-left, outcome-next, tape-changes, tape-reel, tape-makes, tape-meaning, new-tape};
 use crate::fault::RegisterFault;
 use crate::handles::Handles;
 use crate::journal::Entry;
@@ -31,6 +33,23 @@ impl<'a> Tape<'a> {
             journal,
             spent: 0,
         }
+    }
+
+    /// The journal as it stands: entry k says what pulse k did, and those of pulses to come are as they were handed.
+    pub fn journal(&self) -> &[Entry]
+        ensures { λ r. ⌜ now r ≡ tape-reel (now (self .entry)) .entries ⌝ }
+    {
+        self.journal
+    }
+
+    // Writes the entry of the next pulse, which is then spent.
+    fn spend(&mut self, entry: Entry)
+        requires { ⌜ now self .spent < length (now self .journal .now) ⌝ }
+        ensures handles { λ _. ⌜ now (self .exit) .handles ≡ now (self .entry) .handles ⌝ }
+        ensures reel { λ _. ⌜ tape-reel (now (self .exit)) ≡ filled (tape-reel (now (self .entry))) entry (now (self .entry) .handles .next) ⌝ }
+    {
+        self.journal[self.spent] = entry;
+        self.spent += 1;
     }
 }
 
@@ -75,24 +94,21 @@ pub impl<'a> Register for Tape<'a> as TapeRegister {
     fn prepare(&mut self, bit: bool) -> Result<u8, RegisterFault> {
         let pulses = self.pulses();
         let handle = self.handles.prepare(pulses)?;
-        self.journal[self.spent] = Entry::Prepare { handle, bit };
-        self.spent += 1;
+        self.spend(Entry::Prepare { handle, bit });
         Ok(handle)
     }
 
     fn gate(&mut self, gate: Gate, on: &[u8]) -> Result<(), RegisterFault> {
         self.handles.allow_gate(self.pulses(), true, gate, on)?;
         let on = [operand(on, 0), operand(on, 1), operand(on, 2)];
-        self.journal[self.spent] = Entry::Gate { gate, on };
-        self.spent += 1;
+        self.spend(Entry::Gate { gate, on });
         Ok(())
     }
 
     fn read(&mut self, handle: u8) -> Result<bool, RegisterFault> {
         self.handles.allow_read(self.pulses(), handle)?;
         let outcome = self.outcomes[self.spent] % 2 == 1;
-        self.journal[self.spent] = Entry::Read { handle, outcome };
-        self.spent += 1;
+        self.spend(Entry::Read { handle, outcome });
         Ok(outcome)
     }
 
