@@ -1,0 +1,103 @@
+//! The reader: line after line, from the header to the end line.
+
+use crate::cells::numbers;
+use crate::cells::put;
+use crate::cells::term_cell;
+use crate::cells::type_cell;
+use crate::faults::ReadFault;
+use crate::faults::ReadReason;
+use crate::lines::Record;
+use crate::lines::record_of;
+use crate::parts::parted;
+use crate::sections::Section;
+use crate::sections::SectionPartialEq;
+use crate::sections::next_section;
+use calculus::MOST_TERM_CELLS;
+use calculus::MOST_TYPE_CELLS;
+use calculus::TermCell;
+use calculus::TypeCell;
+
+/// Where a read stands: its section, the cells so far, and whether the end line, once read, counts just these.
+#[derive(Clone, Copy, Drop)]
+pub struct Place {
+    pub section: Section,
+    pub kinds: usize,
+    pub ops: usize,
+    pub agrees: bool,
+}
+
+// Takes in a line, and answers where the read stands in its section after it.
+fn take_line(
+    place: Place,
+    line: &[u8],
+    types: &mut [TypeCell],
+    terms: &mut [TermCell],
+) -> Result<Place, ReadReason> {
+    let record = record_of(line);
+    let section = next_section(place.section, record)?;
+    let mut next = Place { section, ..place };
+    match record {
+        Record::Kind(kind) => next.kinds = put(
+            types,
+            place.kinds,
+            MOST_TYPE_CELLS,
+            type_cell(kind)?,
+        )?,
+        Record::Term(op, argument, claim) => next.ops = put(
+            terms,
+            place.ops,
+            MOST_TERM_CELLS,
+            term_cell(op, argument, claim)?,
+        )?,
+        Record::Counts(kinds, ops) => {
+            let (kinds, ops) = numbers(kinds, ops)?;
+            next.agrees = kinds as usize == place.kinds && ops as usize == place.ops;
+        }
+        Record::Header | Record::Other => {}
+    }
+    Ok(next)
+}
+
+/// Reads a stored program to the front of two tables, and answers how many cells of each there are.
+/// A refused read leaves the cells of the lines before the one at fault.
+pub fn read(
+    text: &[u8],
+    types: &mut [TypeCell],
+    terms: &mut [TermCell],
+) -> Result<(usize, usize), ReadFault> {
+    let mut place = Place {
+        section: Section::Header,
+        kinds: 0,
+        ops: 0,
+        agrees: false,
+    };
+    let mut due = 1;
+    let mut rest = text;
+    while place.section != Section::End {
+        let Some((line, after)) = parted(rest, b'\n') else {
+            return Err(ReadFault {
+                reason: ReadReason::End,
+                line: due,
+            });
+        };
+        match take_line(place, line, types, terms) {
+            Ok(next) => place = next,
+            Err(reason) => return Err(ReadFault { reason, line: due }),
+        }
+        due += 1;
+        rest = after;
+    }
+    if !rest.is_empty() {
+        return Err(ReadFault {
+            reason: ReadReason::Line,
+            line: due,
+        });
+    }
+    if !place.agrees {
+        return Err(ReadFault {
+            reason: ReadReason::End,
+            line: due - 1,
+        });
+    }
+    Ok((place.kinds, place.ops))
+}
