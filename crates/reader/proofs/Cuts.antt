@@ -20,6 +20,10 @@ ahead-longer : (xs : List ℕ) (b : ℕ) (ps : List (List ℕ)) → ahead xs (lo
 ahead-longer xs b [] = refl
 ahead-longer xs b (p ∷ ps) = ap (λ q. q ∷ ps) (sym (append-assoc xs (b ∷ []) p))
 
+-- a first piece, and what the others are
+pub then-cut : {ps qs rs : List (List ℕ)} {p : List ℕ} → ps ≡ p ∷ qs → qs ≡ rs → ps ≡ p ∷ rs
+then-cut {p} e f = e ∙ ap (λ qs. p ∷ qs) f
+
 module _ (mark : ℕ) where
   pub at-mark : (b : ℕ) (bs : List ℕ) → b ≡ mark → pieces mark (b ∷ bs) ≡ [] ∷ pieces mark bs
   at-mark b bs e = cond-true _ _ _ (eq-eqb b mark e)
@@ -48,11 +52,15 @@ module _ (mark : ℕ) where
         at-drop-all (λ ys. ahead (take i xs) (pieces mark ys)) xs i l
         ∙ ap (λ ys. ys ∷ []) (append-nil (take i xs) ∙ take-all i xs l)
 
-  pub ahead-none : (xs : List ℕ) → ahead [] (pieces mark xs) ≡ pieces mark xs
-  ahead-none [] = refl
-  ahead-none (x ∷ xs) = either (eqb x mark) x (pieces mark xs)
+  -- there is always a first piece
+  pub some-piece : (xs : List ℕ) → (p : List ℕ) × (ps : List (List ℕ)) × (pieces mark xs ≡ p ∷ ps)
+  some-piece [] = ([], [], refl)
+  some-piece (x ∷ xs) = either (eqb x mark) x (pieces mark xs)
     where
-      either : (t : Bool) (x : ℕ) (ps : List (List ℕ)) → ahead [] (cond t ([] ∷ ps) (longer x ps)) ≡ cond t ([] ∷ ps) (longer x ps)
-      either true x ps = refl
-      either false x [] = refl
-      either false x (p ∷ ps) = refl
+      either : (t : Bool) (x : ℕ) (ps : List (List ℕ)) → (q : List ℕ) × (qs : List (List ℕ)) × (cond t ([] ∷ ps) (longer x ps) ≡ q ∷ qs)
+      either true x ps = ([], ps, refl)
+      either false x [] = (x ∷ [], [], refl)
+      either false x (p ∷ ps) = (x ∷ p, ps, refl)
+
+  pub ahead-none : (xs : List ℕ) → ahead [] (pieces mark xs) ≡ pieces mark xs
+  ahead-none xs = let (p, ps, e) = some-piece xs in ap (ahead []) e ∙ sym e

@@ -1,2 +1,4 @@
 pub mod Cuts
+pub mod Forms
+pub mod Turns
 pub mod Values

@@ -1,3 +1,6 @@
+pub mod Cells
 pub mod Faults
+pub mod Lines
 pub mod Numbers
 pub mod Pieces
+pub mod Reading

@@ -1,5 +1,9 @@
 //! The reader: line after line, from the header to the end line.
 
+ghost use mathlib.Core.Path.{_≡_};
+ghost use Prim.Native.Nat.{_≤_};
+ghost use Rattle.reader.specs.Lines.{said};
+ghost use Rattle.reader.specs.Reading.{agreeing, line-read, closed, reading};
 use crate::cells::numbers;
 use crate::cells::put;
 use crate::cells::term_cell;
@@ -26,13 +30,24 @@ pub struct Place {
     pub agrees: bool,
 }
 
-// Takes in a line, and answers where the read stands in its section after it.
+// Whether the counts of an end line are those of the cells.
+fn counts_agree(counts: (u16, u16), place: Place) -> bool
+    ensures { λ r. ⌜ r ≡ agreeing counts place ⌝ }
+{
+    counts.0 as usize == place.kinds && counts.1 as usize == place.ops
+}
+
+// Takes in a line, and answers where the read stands after it.
 fn take_line(
     place: Place,
     line: &[u8],
     types: &mut [TypeCell],
     terms: &mut [TermCell],
-) -> Result<Place, ReadReason> {
+) -> Result<Place, ReadReason>
+    ensures answer { λ r. ⌜ r ≡ line-read place (said (now (line .entry))) (now (types .entry)) (now (terms .entry)) .answer ⌝ }
+    ensures types { λ _. ⌜ now (types .exit) ≡ line-read place (said (now (line .entry))) (now (types .entry)) (now (terms .entry)) .types ⌝ }
+    ensures terms { λ _. ⌜ now (terms .exit) ≡ line-read place (said (now (line .entry))) (now (types .entry)) (now (terms .entry)) .terms ⌝ }
+{
     let record = record_of(line);
     let section = next_section(place.section, record)?;
     let mut next = Place { section, ..place };
@@ -49,43 +64,22 @@ fn take_line(
             MOST_TERM_CELLS,
             term_cell(op, argument, claim)?,
         )?,
-        Record::Counts(kinds, ops) => {
-            let (kinds, ops) = numbers(kinds, ops)?;
-            next.agrees = kinds as usize == place.kinds && ops as usize == place.ops;
-        }
+        Record::Counts(kinds, ops) => next.agrees = counts_agree(numbers(kinds, ops)?, place),
         Record::Header | Record::Other => {}
     }
     Ok(next)
 }
 
-/// Reads a stored program to the front of two tables, and answers how many cells of each there are.
-/// A refused read leaves the cells of the lines before the one at fault.
-pub fn read(
-    text: &[u8],
-    types: &mut [TypeCell],
-    terms: &mut [TermCell],
-) -> Result<(usize, usize), ReadFault> {
-    let mut place = Place {
-        section: Section::Header,
-        kinds: 0,
-        ops: 0,
-        agrees: false,
-    };
-    let mut due = 1;
-    let mut rest = text;
-    while place.section != Section::End {
-        let Some((line, after)) = parted(rest, b'\n') else {
-            return Err(ReadFault {
-                reason: ReadReason::End,
-                line: due,
-            });
-        };
-        match take_line(place, line, types, terms) {
-            Ok(next) => place = next,
-            Err(reason) => return Err(ReadFault { reason, line: due }),
-        }
-        due += 1;
-        rest = after;
+// The verdict at the end of the text, by what stands after its last ended line.
+fn close(rest: &[u8], due: usize, place: Place) -> Result<(usize, usize), ReadFault>
+    requires { ⌜ 1 ≤ due ⌝ }
+    ensures { λ r. ⌜ r ≡ closed (now (rest .entry)) due place ⌝ }
+{
+    if place.section != Section::End {
+        return Err(ReadFault {
+            reason: ReadReason::End,
+            line: due,
+        });
     }
     if !rest.is_empty() {
         return Err(ReadFault {
@@ -100,4 +94,34 @@ pub fn read(
         });
     }
     Ok((place.kinds, place.ops))
+}
+
+/// Reads a stored program to the front of two tables, and answers how many cells of each there are.
+/// A refused read leaves the cells of the lines before the one at fault.
+pub fn read(
+    text: &[u8],
+    types: &mut [TypeCell],
+    terms: &mut [TermCell],
+) -> Result<(usize, usize), ReadFault>
+    ensures answer { λ r. ⌜ r ≡ reading (now (text .entry)) (now (types .entry)) (now (terms .entry)) .answer ⌝ }
+    ensures types { λ _. ⌜ now (types .exit) ≡ reading (now (text .entry)) (now (types .entry)) (now (terms .entry)) .types ⌝ }
+    ensures terms { λ _. ⌜ now (terms .exit) ≡ reading (now (text .entry)) (now (types .entry)) (now (terms .entry)) .terms ⌝ }
+{
+    let mut place = Place {
+        section: Section::Header,
+        kinds: 0,
+        ops: 0,
+        agrees: false,
+    };
+    let mut due = 1;
+    let mut rest = text;
+    while let Some((line, after)) = parted(rest, b'\n') {
+        match take_line(place, line, types, terms) {
+            Ok(next) => place = next,
+            Err(reason) => return Err(ReadFault { reason, line: due }),
+        }
+        due += 1;
+        rest = after;
+    }
+    close(rest, due, place)
 }

@@ -1,5 +1,7 @@
 //! The sections of a stored program, and which line leads from one to the next.
 
+ghost use mathlib.Core.Path.{_≡_};
+ghost use Rattle.reader.specs.Lines.{said-by, section-after};
 use crate::faults::ReadReason;
 use crate::lines::Record;
 
@@ -13,7 +15,9 @@ pub enum Section {
 }
 
 /// The section after a line, where the line is allowed.
-pub fn next_section(section: Section, line: Record) -> Result<Section, ReadReason> {
+pub fn next_section(section: Section, line: Record) -> Result<Section, ReadReason>
+    ensures { λ r. ⌜ r ≡ section-after section (said-by (line .entry)) ⌝ }
+{
     match (section, line) {
         (Section::Header, Record::Header) => Ok(Section::Types),
         (Section::Header, _) => Err(ReadReason::Header),
