@@ -29,7 +29,7 @@ letter-in [] = None
 letter-in (b ∷ []) = Some b
 letter-in (b ∷ c ∷ bs) = None
 
-abbrev kind-with : Option ℕ → Result TypeCell ReadReason
+abbrev pub kind-with : Option ℕ → Result TypeCell ReadReason
 kind-with None = Err Line
 kind-with (Some k) = cond (is-kind k) (Ok (record { kind = k })) (Err Line)
 
@@ -37,7 +37,7 @@ kind-with (Some k) = cond (is-kind k) (Ok (record { kind = k })) (Err Line)
 abbrev pub kind-cell : List ℕ → Result TypeCell ReadReason
 kind-cell f = kind-with (letter-in f)
 
-abbrev both : Option ℕ → Option ℕ → Result (ℕ × ℕ) ReadReason
+abbrev pub both : Option ℕ → Option ℕ → Result (ℕ × ℕ) ReadReason
 both None n = Err Number
 both (Some m) None = Err Number
 both (Some m) (Some n) = Ok (m, n)
@@ -46,11 +46,11 @@ both (Some m) (Some n) = Ok (m, n)
 abbrev pub two-numbers : List ℕ → List ℕ → Result (ℕ × ℕ) ReadReason
 two-numbers f g = both (number-in f) (number-in g)
 
-abbrev op-at : ℕ → Result (ℕ × ℕ) ReadReason → Result TermCell ReadReason
+abbrev pub op-at : ℕ → Result (ℕ × ℕ) ReadReason → Result TermCell ReadReason
 op-at o (Err e) = Err e
 op-at o (Ok n) = Ok (record { op = o; argument = n .0; claim = n .1 })
 
-abbrev op-with : Option ℕ → Result (ℕ × ℕ) ReadReason → Result TermCell ReadReason
+abbrev pub op-with : Option ℕ → Result (ℕ × ℕ) ReadReason → Result TermCell ReadReason
 op-with None n = Err Line
 op-with (Some o) n = cond (is-op o) (op-at o n) (Err Line)
 

@@ -4,3 +4,4 @@ pub mod Lines
 pub mod Numbers
 pub mod Pieces
 pub mod Reading
+pub mod Stored

@@ -1,6 +1,6 @@
 -- How a stored program is read: line by line, to an answer and both tables.
 use mathlib.Core.List.{List, [], _∷_}
-use mathlib.Core.Bool.{Bool, true, false, cond, _&&_}
+use mathlib.Core.Bool.{Bool, false, cond, _&&_}
 use Prim.Native.Nat.{ℕ, _+_, _-_}
 use lib.Dec.{eqb}
 use Rattle.std.specs.declared.result.Result.{Result}
@@ -29,21 +29,21 @@ left x ts ms = record { answer = x; types = ts; terms = ms }
 abbrev pub start : Place
 start = record { section = section.Header; kinds = 0; ops = 0; agrees = false }
 
-abbrev to-kinds : Place → Result ℕ ReadReason → Result Place ReadReason
+abbrev pub to-kinds : Place → Result ℕ ReadReason → Result Place ReadReason
 to-kinds p (Err e) = Err e
 to-kinds p (Ok n) = Ok (record { section = p .section; kinds = n; ops = p .ops; agrees = p .agrees })
 
 -- a kind line's cell goes to the place after the earlier ones, if there is room
-abbrev with-kind : Place → Result TypeCell ReadReason → List TypeCell → List TermCell → Left (Result Place ReadReason)
+abbrev pub with-kind : Place → Result TypeCell ReadReason → List TypeCell → List TermCell → Left (Result Place ReadReason)
 with-kind p (Err e) ts ms = left (Err e) ts ms
 with-kind p (Ok c) ts ms = left (to-kinds p (next-place 256 ts (p .kinds))) (with-cell 256 ts (p .kinds) c) ms
 
-abbrev to-ops : Place → Result ℕ ReadReason → Result Place ReadReason
+abbrev pub to-ops : Place → Result ℕ ReadReason → Result Place ReadReason
 to-ops p (Err e) = Err e
 to-ops p (Ok n) = Ok (record { section = p .section; kinds = p .kinds; ops = n; agrees = p .agrees })
 
 -- and so does an op line's
-abbrev with-op : Place → Result TermCell ReadReason → List TypeCell → List TermCell → Left (Result Place ReadReason)
+abbrev pub with-op : Place → Result TermCell ReadReason → List TypeCell → List TermCell → Left (Result Place ReadReason)
 with-op p (Err e) ts ms = left (Err e) ts ms
 with-op p (Ok c) ts ms = left (to-ops p (next-place 512 ms (p .ops))) ts (with-cell 512 ms (p .ops) c)
 

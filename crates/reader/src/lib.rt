@@ -5,6 +5,7 @@ mod faults;
 mod lines;
 mod numbers;
 mod parts;
+mod promises;
 mod reading;
 mod sections;
 
@@ -16,4 +17,5 @@ pub use faults::ReadReason;
 pub use faults::ReadReasonDebug;
 pub use faults::ReadReasonEq;
 pub use faults::ReadReasonPartialEq;
+pub use promises::reading_is_exact;
 pub use reading::read;

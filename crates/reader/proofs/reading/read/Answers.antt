@@ -1,6 +1,7 @@
 use mathlib.Core.Path.{ap, _∙_}
 use native.Mathlib.Omega.{arith}
-use Rattle.reader.specs.Reading.{Outcome}
+use Rattle.reader.specs.Reading.{Outcome, left}
+use Rattle.reader.proofs.Exacts.{done}
 use Rattle.reader.proofs.Turns.{goes-on, refuses, ends}
 use Rattle.reader.proofs.reading.read.Needs as need
 
@@ -15,10 +16,20 @@ returns-in-Err c =
     let l = c .loop-line in
     let t = c .in-Err .ensures tt in
     let e = refuses (l .rest .now) (c .in-Some .line .now) (c .in-Some .after .now) (l .due) (l .place) (l .types) (l .terms) (c .in-Some .ensures tt .parts) (c .in-Err .reason) (c .take-line .last .types) (c .take-line .last .terms) (t .answer) (t .types) (t .terms) ∙ l .inv .2 in
-    record { answer = ap (λ (o : Outcome). o .answer) e; types = ap (λ (o : Outcome). o .types) e; terms = ap (λ (o : Outcome). o .terms) e }
+    record {
+      answer = ap (λ (o : Outcome). o .answer) e;
+      types = ap (λ (o : Outcome). o .types) e;
+      terms = ap (λ (o : Outcome). o .terms) e;
+      stored = done (c .args .text .now) (c .args .types .now) (c .args .terms .now) _ _ _ e;
+    }
 
 pub returns : need.returns
 returns c =
     let l = c .loop-line in
-    let e = ends (l .rest .now) (l .due) (l .place) (l .types) (l .terms) (c .in-rest .ensures tt .parts) ∙ l .inv .2 in
-    record { answer = c .close .ensures ∙ ap (λ (o : Outcome). o .answer) e; types = ap (λ (o : Outcome). o .types) e; terms = ap (λ (o : Outcome). o .terms) e }
+    let e = ap (λ r. left r (l .types) (l .terms)) (c .close .ensures) ∙ ends (l .rest .now) (l .due) (l .place) (l .types) (l .terms) (c .in-rest .ensures tt .parts) ∙ l .inv .2 in
+    record {
+      answer = ap (λ (o : Outcome). o .answer) e;
+      types = ap (λ (o : Outcome). o .types) e;
+      terms = ap (λ (o : Outcome). o .terms) e;
+      stored = done (c .args .text .now) (c .args .types .now) (c .args .terms .now) _ _ _ e;
+    }
