@@ -22,7 +22,7 @@ use Rattle.reader.specs.declared.sections.Section.{Section}
 use Rattle.reader.specs.declared.sections.Section.the-variants as section
 use Rattle.reader.specs.Cells.{kind-cell, op-cell, two-numbers, has-room}
 use Rattle.reader.specs.Lines.{Said, header, kind, term, counts, other, said}
-use Rattle.reader.specs.Reading.{Outcome, left, fault, agreeing, with-kind, to-kinds, with-op, to-ops, with-counts, line-read, after-line, reads}
+use Rattle.reader.specs.Reading.{Left, Outcome, left, fault, agreeing, with-kind, to-kinds, with-op, to-ops, with-counts, line-read, after-line, reads}
 use Rattle.reader.specs.Stored.{kind-line, op-line, end-line, Kind-known, Op-known}
 use Rattle.reader.proofs.Spellings.{Spelled, spelled, kind-is, op-is, end-is}
 use Rattle.reader.proofs.Tables.{puts, room-is}
@@ -94,13 +94,15 @@ module _ (due k o : ℕ) (ts : List TypeCell) (ms : List TermCell) (w : Within k
         (refl, ap (λ l. l ∷ [] ∷ []) (is ∙ same (and-parts (eqb i k) (eqb j o) e))))
     last false e = bare (line ∷ [] ∷ []) sec (fault reason.End (due + 1 - 1)) (inl (omega arith))
 
-    pub closing : (next : List ℕ) (lines : List (List ℕ)) (a : Bool) → agreeing (i, j) (place section.End k o a) ≡ a → Came (line ∷ next ∷ lines) due sec k o ts ms (reads (next ∷ lines) (due + 1) (place section.End k o a) ts ms)
+    pub closing : (next : List ℕ) (lines : List (List ℕ)) (a : Bool) → agreeing (i, j) (place section.End k o a) ≡ a
+        → Came (line ∷ next ∷ lines) due sec k o ts ms (reads (next ∷ lines) (due + 1) (place section.End k o a) ts ms)
     closing [] [] a e = last a e
     closing (b ∷ bs) [] a e = past ((b ∷ bs) ∷ [])
     closing next (l ∷ lines) a e = past (next ∷ l ∷ lines)
 
   -- the first line says a cell
-  pub one-kind : (line : List ℕ) (ls : List (List ℕ)) (c : TypeCell) (out : Outcome) → line ≡ kind-line c → Kind-known c → Came ls (due + 1) section.Types (k + 1) o (set ts k c) ms out → Came (line ∷ ls) due section.Types k o ts ms out
+  pub one-kind : (line : List ℕ) (ls : List (List ℕ)) (c : TypeCell) (out : Outcome) → line ≡ kind-line c → Kind-known c
+      → Came ls (due + 1) section.Types (k + 1) o (set ts k c) ms out → Came (line ∷ ls) due section.Types k o ts ms out
   one-kind line ls c out e h m = record {
     ks = c ∷ m .ks;
     os = m .os;
@@ -115,7 +117,8 @@ module _ (due k o : ℕ) (ts : List TypeCell) (ms : List TermCell) (w : Within k
     verdict = moved (out .answer) _ _ _ _ _ _ (m .tail) (omega arith) (omega arith) refl (m .verdict);
   }
 
-  pub one-op : (line : List ℕ) (ls : List (List ℕ)) (sec : Section) (c : TermCell) (out : Outcome) → line ≡ op-line c → Op-known c → Came ls (due + 1) section.Terms k (o + 1) ts (set ms o c) out → Came (line ∷ ls) due sec k o ts ms out
+  pub one-op : (line : List ℕ) (ls : List (List ℕ)) (sec : Section) (c : TermCell) (out : Outcome) → line ≡ op-line c → Op-known c
+      → Came ls (due + 1) section.Terms k (o + 1) ts (set ms o c) out → Came (line ∷ ls) due sec k o ts ms out
   one-op line ls sec c out e h m = let none = m .ordered refl in let n = ap length none in record {
     ks = [];
     os = c ∷ m .os;
@@ -138,40 +141,47 @@ In-body section.End = ⊥
 
 -- what is shown of the lines after the first
 abbrev Later : List (List ℕ) → Type 0
-Later ls = (due : ℕ) (sec : Section) (k o : ℕ) (a : Bool) (ts : List TypeCell) (ms : List TermCell) → In-body sec → Within k o ts ms → Came ls due sec k o ts ms (reads ls due (place sec k o a) ts ms)
+Later ls =
+    (due : ℕ) (sec : Section) (k o : ℕ) (a : Bool) (ts : List TypeCell) (ms : List TermCell) → In-body sec → Within k o ts ms → Came ls due sec k o ts ms (reads ls due (place sec k o a) ts ms)
 
 module _ (line next : List ℕ) (lines : List (List ℕ)) (more : Later (next ∷ lines)) (due k o : ℕ) (a : Bool) (ts : List TypeCell) (ms : List TermCell) (w : Within k o ts ms) where
   -- what is left once the first line's step is done
-  abbrev then-reads : Result Place ReadReason → List TypeCell → List TermCell → Outcome
-  then-reads r us ns = after-line due r us ns (reads (next ∷ lines) (due + 1))
+  abbrev then-reads : Left (Result Place ReadReason) → Outcome
+  then-reads l = after-line due l (reads (next ∷ lines) (due + 1))
 
-  put-kind : (c : TypeCell) (b : Bool) → has-room 256 ts k ≡ b → line ≡ kind-line c → Kind-known c → Came (line ∷ next ∷ lines) due section.Types k o ts ms (then-reads (to-kinds (place section.Types k o a) (cond b (Ok (k + 1)) (Err reason.Full))) (cond b (set ts k c) ts) ms)
+  abbrev Goes : Section → Left (Result Place ReadReason) → Type 0
+  Goes sec l = Came (line ∷ next ∷ lines) due sec k o ts ms (then-reads l)
+
+  put-kind : (c : TypeCell) (b : Bool) → has-room 256 ts k ≡ b → line ≡ kind-line c → Kind-known c
+      → Goes section.Types (left (to-kinds (place section.Types k o a) (cond b (Ok (k + 1)) (Err reason.Full))) (cond b (set ts k c) ts) ms)
   put-kind c true r e h =
       let room = room-is 256 ts k r in
       let w′ : Within (k + 1) o (set ts k c) ms = record { kinds = omega (arith, length-set ts k c); ops = w .ops } in
       one-kind due k o ts ms w line (next ∷ lines) c _ e h (more (due + 1) section.Types (k + 1) o a (set ts k c) ms tt w′)
   put-kind c false r e h = stop due k o ts ms w (line ∷ next ∷ lines) section.Types reason.Full
 
-  kind-step : (f : List ℕ) (r : Result TypeCell ReadReason) → kind-cell f ≡ r → Spelled (kind f) line → Came (line ∷ next ∷ lines) due section.Types k o ts ms (then-reads (with-kind (place section.Types k o a) r ts ms .answer) (with-kind (place section.Types k o a) r ts ms .types) (with-kind (place section.Types k o a) r ts ms .terms))
+  kind-step : (f : List ℕ) (r : Result TypeCell ReadReason) → kind-cell f ≡ r → Spelled (kind f) line → Goes section.Types (with-kind (place section.Types k o a) r ts ms)
   kind-step f (Err e) h s = stop due k o ts ms w (line ∷ next ∷ lines) section.Types e
   kind-step f (Ok c) h s = let p = kind-is line f c s h in put-kind c (has-room 256 ts k) refl (p .0) (p .1)
 
-  put-op : (sec : Section) (c : TermCell) (b : Bool) → has-room 512 ms o ≡ b → line ≡ op-line c → Op-known c → Came (line ∷ next ∷ lines) due sec k o ts ms (then-reads (to-ops (place section.Terms k o a) (cond b (Ok (o + 1)) (Err reason.Full))) ts (cond b (set ms o c) ms))
+  put-op : (sec : Section) (c : TermCell) (b : Bool) → has-room 512 ms o ≡ b → line ≡ op-line c → Op-known c
+      → Goes sec (left (to-ops (place section.Terms k o a) (cond b (Ok (o + 1)) (Err reason.Full))) ts (cond b (set ms o c) ms))
   put-op sec c true r e h =
       let room = room-is 512 ms o r in
       let w′ : Within k (o + 1) ts (set ms o c) = record { kinds = w .kinds; ops = omega (arith, length-set ms o c) } in
       one-op due k o ts ms w line (next ∷ lines) sec c _ e h (more (due + 1) section.Terms k (o + 1) a ts (set ms o c) tt w′)
   put-op sec c false r e h = stop due k o ts ms w (line ∷ next ∷ lines) sec reason.Full
 
-  op-step : (sec : Section) (f g h : List ℕ) (r : Result TermCell ReadReason) → op-cell f g h ≡ r → Spelled (term f g h) line → Came (line ∷ next ∷ lines) due sec k o ts ms (then-reads (with-op (place section.Terms k o a) r ts ms .answer) (with-op (place section.Terms k o a) r ts ms .types) (with-op (place section.Terms k o a) r ts ms .terms))
+  op-step : (sec : Section) (f g h : List ℕ) (r : Result TermCell ReadReason) → op-cell f g h ≡ r → Spelled (term f g h) line → Goes sec (with-op (place section.Terms k o a) r ts ms)
   op-step sec f g h (Err e) m s = stop due k o ts ms w (line ∷ next ∷ lines) sec e
   op-step sec f g h (Ok c) m s = let p = op-is line f g h c s m in put-op sec c (has-room 512 ms o) refl (p .0) (p .1)
 
-  end-step : (sec : Section) (f g : List ℕ) (r : Result (ℕ × ℕ) ReadReason) → two-numbers f g ≡ r → Spelled (counts f g) line → Came (line ∷ next ∷ lines) due sec k o ts ms (then-reads (with-counts (place section.End k o a) r) ts ms)
+  end-step : (sec : Section) (f g : List ℕ) (r : Result (ℕ × ℕ) ReadReason) → two-numbers f g ≡ r → Spelled (counts f g) line
+      → Goes sec (left (with-counts (place section.End k o a) r) ts ms)
   end-step sec f g (Err e) h s = stop due k o ts ms w (line ∷ next ∷ lines) sec e
   end-step sec f g (Ok n) h s = closing due k o ts ms w line sec (n .0) (n .1) (end-is line f g n s h) next lines (agreeing n (place section.End k o a)) refl
 
-  step : (sec : Section) (s : Said) → In-body sec → Spelled s line → Came (line ∷ next ∷ lines) due sec k o ts ms (then-reads (line-read (place sec k o a) s ts ms .answer) (line-read (place sec k o a) s ts ms .types) (line-read (place sec k o a) s ts ms .terms))
+  step : (sec : Section) (s : Said) → In-body sec → Spelled s line → Goes sec (line-read (place sec k o a) s ts ms)
   step section.Header s b p = absurd b
   step section.Types header b p = stop due k o ts ms w (line ∷ next ∷ lines) section.Types reason.Line
   step section.Types (kind f) b p = kind-step f (kind-cell f) refl p
@@ -185,7 +195,8 @@ module _ (line next : List ℕ) (lines : List (List ℕ)) (more : Later (next �
   step section.Terms other b p = stop due k o ts ms w (line ∷ next ∷ lines) section.Terms reason.Line
   step section.End s b p = absurd b
 
-unended : (ls : List (List ℕ)) (rest : List ℕ) (due : ℕ) (sec : Section) (k o : ℕ) (a : Bool) (ts : List TypeCell) (ms : List TermCell) → In-body sec → Within k o ts ms → Came ls due sec k o ts ms (reads (rest ∷ []) due (place sec k o a) ts ms)
+unended : (ls : List (List ℕ)) (rest : List ℕ) (due : ℕ) (sec : Section) (k o : ℕ) (a : Bool) (ts : List TypeCell) (ms : List TermCell) → In-body sec
+    → Within k o ts ms → Came ls due sec k o ts ms (reads (rest ∷ []) due (place sec k o a) ts ms)
 unended ls rest due section.Header k o a ts ms b w = absurd b
 unended ls rest due section.Types k o a ts ms b w = stop due k o ts ms w ls section.Types reason.End
 unended ls rest due section.Terms k o a ts ms b w = stop due k o ts ms w ls section.Terms reason.End

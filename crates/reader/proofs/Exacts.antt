@@ -39,7 +39,7 @@ First ls ts ms out =
     ⊎ ((rest : List (List ℕ)) × (ls ≡ header-line ∷ rest) × (out ≡ reads rest 2 (place section.Types 0 0 false) ts ms))
 
 module _ (ts : List TypeCell) (ms : List TermCell) where
-  first-said : (line next : List ℕ) (lines : List (List ℕ)) (s : Said) → Spelled s line → First (line ∷ next ∷ lines) ts ms (after-line 1 (line-read start s ts ms .answer) (line-read start s ts ms .types) (line-read start s ts ms .terms) (reads (next ∷ lines) 2))
+  first-said : (line next : List ℕ) (lines : List (List ℕ)) (s : Said) → Spelled s line → First (line ∷ next ∷ lines) ts ms (after-line 1 (line-read start s ts ms) (reads (next ∷ lines) 2))
   first-said line next lines header p = inr (next ∷ lines, ap (λ l. l ∷ next ∷ lines) p, refl)
   first-said line next lines (kind f) p = inl (reason.Header, refl)
   first-said line next lines (term f g h) p = inl (reason.Header, refl)
@@ -66,7 +66,8 @@ module _ (ts : List TypeCell) (ms : List TermCell) where
   }
 
   -- the outcome, from its answer
-  with-answer : (rest : List (List ℕ)) (out : Outcome) (m : Came rest 2 section.Types 0 0 ts ms out) (r : Result (ℕ × ℕ) ReadFault) → out .answer ≡ r → out ≡ left r (fronted (m .ks) ts) (fronted (m .os) ms)
+  with-answer : (rest : List (List ℕ)) (out : Outcome) (m : Came rest 2 section.Types 0 0 ts ms out) (r : Result (ℕ × ℕ) ReadFault) → out .answer ≡ r
+      → out ≡ left r (fronted (m .ks) ts) (fronted (m .os) ms)
   with-answer rest out m r e =
       let f = fits rest out m in
       ap (λ x. left x (out .types) (out .terms)) e
@@ -77,7 +78,8 @@ regroup : (ks : List TypeCell) (os : List TermCell) (more : List (List ℕ)) →
 regroup ks os more = ap (λ ls. header-line ∷ ls) (sym (append-assoc (map kind-line ks) (map op-line os) more))
 
 -- the text of a program, from its pieces
-text-is : (text : List ℕ) (ks : List TypeCell) (os : List TermCell) → pieces 10 text ≡ header-line ∷ (map kind-line ks ++ (map op-line os ++ (end-line (length ks) (length os) ∷ [] ∷ []))) → text ≡ written ks os
+text-is : (text : List ℕ) (ks : List TypeCell) (os : List TermCell)
+    → pieces 10 text ≡ header-line ∷ (map kind-line ks ++ (map op-line os ++ (end-line (length ks) (length os) ∷ [] ∷ []))) → text ≡ written ks os
 text-is text ks os e =
     let ended = end-line (length ks) (length os) ∷ [] in
     sym (glue 10 text)
@@ -89,7 +91,9 @@ Accepted text ts ms = (ks : List TypeCell) × (os : List TermCell) × (text ≡ 
 
 module _ (text : List ℕ) (ts : List TypeCell) (ms : List TermCell) where
   -- the end line is the last, and counts the cells
-  whole : (rest : List (List ℕ)) (out : Outcome) (m : Came rest 2 section.Types 0 0 ts ms out) (n : ℕ × ℕ) → pieces 10 text ≡ header-line ∷ rest → reading text ts ms ≡ out → Verdict (Ok n) (2 + length (m .ks) + length (m .os)) (0 + length (m .ks)) (0 + length (m .os)) (m .tail) → out .answer ≡ Ok n → Accepted text ts ms
+  whole : (rest : List (List ℕ)) (out : Outcome) (m : Came rest 2 section.Types 0 0 ts ms out) (n : ℕ × ℕ) → pieces 10 text ≡ header-line ∷ rest
+      → reading text ts ms ≡ out → Verdict (Ok n) (2 + length (m .ks) + length (m .os)) (0 + length (m .ks)) (0 + length (m .os)) (m .tail) → out .answer ≡ Ok n
+      → Accepted text ts ms
   whole rest out m n p q v e =
       let k = zero-add (length (m .ks)) in
       let o = zero-add (length (m .os)) in
@@ -103,13 +107,16 @@ module _ (text : List ℕ) (ts : List TypeCell) (ms : List TermCell) where
   accepted-by n e (inr (rest, p, q)) =
       let m = later ts ms rest in
       let a = sym (ap (λ (o : Outcome). o .answer) q) ∙ e in
-      whole rest (reads rest 2 (place section.Types 0 0 false) ts ms) m n p q (subst (λ r. Verdict r (2 + length (m .ks) + length (m .os)) (0 + length (m .ks)) (0 + length (m .os)) (m .tail)) a (m .verdict)) a
+      let v = subst (λ r. Verdict r (2 + length (m .ks) + length (m .os)) (0 + length (m .ks)) (0 + length (m .os)) (m .tail)) a (m .verdict) in
+      whole rest (reads rest 2 (place section.Types 0 0 false) ts ms) m n p q v a
 
   pub accepted : (n : ℕ × ℕ) → reading text ts ms .answer ≡ Ok n → Accepted text ts ms
   accepted n e = accepted-by n e (first ts ms (pieces 10 text))
 
 abbrev Refused : List ℕ → List TypeCell → List TermCell → ReadFault → Type 0
-Refused text ts ms f = (ks : List TypeCell) × (os : List TermCell) × Begins (take (f .line - 1) (pieces 10 text)) ks os × Fitting ks os ts ms × (reading text ts ms ≡ left (Err f) (fronted ks ts) (fronted os ms))
+Refused text ts ms f =
+    (ks : List TypeCell) × (os : List TermCell) × Begins (take (f .line - 1) (pieces 10 text)) ks os × Fitting ks os ts ms
+    × (reading text ts ms ≡ left (Err f) (fronted ks ts) (fronted os ms))
 
 length-cell-lines : (ks : List TypeCell) (os : List TermCell) → length (cell-lines ks os) ≡ 1 + length ks + length os
 length-cell-lines ks os = omega (arith, length-append (map kind-line ks) (map op-line os), length-map ks kind-line, length-map os op-line)
@@ -126,7 +133,9 @@ module _ (ls : List (List ℕ)) (ks : List TypeCell) (os : List TermCell) (at : 
       ∙ take-at (cell-lines ks os ++ ended) more (at - 1) (omega (arith, length-append (cell-lines ks os) ended, length-cell-lines ks os))
 
 module _ (text : List ℕ) (ts : List TypeCell) (ms : List TermCell) (f : ReadFault) where
-  begins : (rest : List (List ℕ)) (out : Outcome) (m : Came rest 2 section.Types 0 0 ts ms out) → pieces 10 text ≡ cell-lines (m .ks) (m .os) ++ m .tail → Verdict (Err f) (2 + length (m .ks) + length (m .os)) (0 + length (m .ks)) (0 + length (m .os)) (m .tail) → Begins (take (f .line - 1) (pieces 10 text)) (m .ks) (m .os)
+  begins : (rest : List (List ℕ)) (out : Outcome) (m : Came rest 2 section.Types 0 0 ts ms out) → pieces 10 text ≡ cell-lines (m .ks) (m .os) ++ m .tail
+      → Verdict (Err f) (2 + length (m .ks) + length (m .os)) (0 + length (m .ks)) (0 + length (m .os)) (m .tail)
+      → Begins (take (f .line - 1) (pieces 10 text)) (m .ks) (m .os)
   begins rest out m e (inl h) = inr (inl (before (pieces 10 text) (m .ks) (m .os) (f .line) (m .tail) e h))
   begins rest out m e (inr (i, j, more, h, t)) = inr (inr (i, j, after (pieces 10 text) (m .ks) (m .os) (f .line) i j more (e ∙ ap (λ ls. cell-lines (m .ks) (m .os) ++ ls) t) h))
 
@@ -134,7 +143,8 @@ module _ (text : List ℕ) (ts : List TypeCell) (ms : List TermCell) (f : ReadFa
   refused-by e (inl (r, q)) =
       let same : record { reason = r; line = 1 } ≡ f = cc (sym (ap (λ (o : Outcome). o .answer) q) ∙ e) in
       let none = ap (λ (g : ReadFault). take (g .line - 1) (pieces 10 text)) (sym same) in
-      ([], [], inl (none, refl, refl), record { kinds-known = tt; ops-known = tt; kinds-within = omega arith; ops-within = omega arith }, q ∙ ap (λ (g : ReadFault). left (Err g) ts ms) same)
+      let fit : Fitting [] [] ts ms = record { kinds-known = tt; ops-known = tt; kinds-within = omega arith; ops-within = omega arith } in
+      ([], [], inl (none, refl, refl), fit, q ∙ ap (λ (g : ReadFault). left (Err g) ts ms) same)
   refused-by e (inr (rest, p, q)) =
       let m = later ts ms rest in
       let out = reads rest 2 (place section.Types 0 0 false) ts ms in
@@ -148,7 +158,8 @@ module _ (text : List ℕ) (ts : List TypeCell) (ms : List TermCell) (f : ReadFa
 
 -- no line of a program has a byte 10
 numbers-lack : (j k : ℕ) → j ≤ 65535 → k ≤ 65535 → Lacks 10 (decimal j ++ (9 ∷ decimal k))
-numbers-lack j k h i = all-append (λ b. b ≡ 10 → ⊥) (decimal j) (9 ∷ decimal k) (decimal-lacks 10 j (omega arith) (omega arith)) ((λ e. omega arith), decimal-lacks 10 k (omega arith) (omega arith))
+numbers-lack j k h i =
+    all-append (λ b. b ≡ 10 → ⊥) (decimal j) (9 ∷ decimal k) (decimal-lacks 10 j (omega arith) (omega arith)) ((λ e. omega arith), decimal-lacks 10 k (omega arith) (omega arith))
 
 kinds-lack : (ks : List TypeCell) → All Kind-known ks → All (Lacks 10) (map kind-line ks)
 kinds-lack [] h = tt
@@ -160,7 +171,8 @@ ops-lack (c ∷ os) h =
     let k = h .0 in
     (((λ e. omega arith), ((λ e. omega arith), (differs is-op (c .op) 10 (k .0) refl, ((λ e. omega arith), numbers-lack (c .argument) (c .claim) (k .1) (k .2))))), ops-lack os (h .1))
 
-all-lack : (ks : List TypeCell) (os : List TermCell) → All Kind-known ks → All Op-known os → length ks ≤ 65535 → length os ≤ 65535 → All (Lacks 10) (cell-lines ks os ++ (end-line (length ks) (length os) ∷ []))
+all-lack : (ks : List TypeCell) (os : List TermCell) → All Kind-known ks → All Op-known os → length ks ≤ 65535 → length os ≤ 65535
+    → All (Lacks 10) (cell-lines ks os ++ (end-line (length ks) (length os) ∷ []))
 all-lack ks os h i m n =
     all-append (Lacks 10) (cell-lines ks os) (end-line (length ks) (length os) ∷ [])
     (((λ e. omega arith), ((λ e. omega arith), ((λ e. omega arith), ((λ e. omega arith), tt)))), all-append (Lacks 10) (map kind-line ks) (map op-line os) (kinds-lack ks h) (ops-lack os i))
@@ -179,7 +191,8 @@ read-back ks os ts ms f =
     ∙ ap (λ xs. left (Ok (length ks, length os)) (fronted ks ts) xs) (puts-front os ms (f .ops-within .1))
 
 -- what a read has done, by cases on its answer
-pub done : (text : List ℕ) (ts : List TypeCell) (ms : List TermCell) (r : Result (ℕ × ℕ) ReadFault) (us : List TypeCell) (ns : List TermCell) → left r us ns ≡ reading text ts ms → Done text ts ms r us ns
+pub done : (text : List ℕ) (ts : List TypeCell) (ms : List TermCell) (r : Result (ℕ × ℕ) ReadFault) (us : List TypeCell) (ns : List TermCell)
+    → left r us ns ≡ reading text ts ms → Done text ts ms r us ns
 done text ts ms (Ok n) us ns e =
     let (ks, os, is, fit, all) = accepted text ts ms n (sym (ap (λ (o : Outcome). o .answer) e)) in
     let same = e ∙ all in

@@ -19,7 +19,8 @@ same-from xs ys r m = let h = matches-decides xs ys r m in search (needs, sameBy
 pub the-header : (line : List ℕ) (r : Bool) → Matches (λ (a b : ℕ) (t : Bool). Decides t (a ≡ b)) line header-line r → r ≡ true → header ≡ said line
 the-header line r m e = sym (cond-true _ _ _ (sym (same-from line header-line r m) ∙ e))
 
-pub by-fields : (line : List ℕ) (r : Bool) (fs : List (List ℕ)) → Matches (λ (a b : ℕ) (t : Bool). Decides t (a ≡ b)) line header-line r → r ≡ false → pieces 9 line ≡ fs → said-fields fs ≡ said line
+pub by-fields : (line : List ℕ) (r : Bool) (fs : List (List ℕ)) → Matches (λ (a b : ℕ) (t : Bool). Decides t (a ≡ b)) line header-line r → r ≡ false
+    → pieces 9 line ≡ fs → said-fields fs ≡ said line
 by-fields line r fs m e p = ap said-fields (sym p) ∙ sym (cond-false _ _ _ (sym (same-from line header-line r m) ∙ e))
 
 pub too-many : (l f g h : List ℕ) (rest : List ℕ) → other ≡ said-fields (l ∷ f ∷ g ∷ h ∷ pieces 9 rest)

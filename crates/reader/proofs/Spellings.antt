@@ -78,7 +78,8 @@ numbers-are f g n h =
 pub end-is : (l f g : List ℕ) (n : ℕ × ℕ) → Spelled (counts f g) l → two-numbers f g ≡ Ok n → l ≡ end-line (n .0) (n .1)
 end-is l f g n s h = let p = numbers-are f g n h in s ∙ ap (λ x. 69 ∷ 9 ∷ (x ++ (9 ∷ g))) (p .0) ∙ ap (λ x. 69 ∷ 9 ∷ (decimal (n .0) ++ (9 ∷ x))) (p .1)
 
-op-made : (o : ℕ) (g h : List ℕ) (r : Result (ℕ × ℕ) ReadReason) (c : TermCell) → is-op o ≡ true → two-numbers g h ≡ r → op-at o r ≡ Ok c → (77 ∷ 9 ∷ o ∷ 9 ∷ (g ++ (9 ∷ h)) ≡ op-line c) × Op-known c
+op-made : (o : ℕ) (g h : List ℕ) (r : Result (ℕ × ℕ) ReadReason) (c : TermCell) → is-op o ≡ true → two-numbers g h ≡ r → op-at o r ≡ Ok c
+    → (77 ∷ 9 ∷ o ∷ 9 ∷ (g ++ (9 ∷ h)) ≡ op-line c) × Op-known c
 op-made o g h (Err e) c k t m = no-ok m
 op-made o g h (Ok n) c k t m =
     let p = numbers-are g h n t in

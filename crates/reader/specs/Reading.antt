@@ -91,18 +91,19 @@ closed rest due p = closed-in (p .section) rest due p
 abbrev pub Outcome : Type 0
 Outcome = Left (Result (ℕ × ℕ) ReadFault)
 
+abbrev pub by-answer : ℕ → Result Place ReadReason → List TypeCell → List TermCell → (Place → List TypeCell → List TermCell → Outcome) → Outcome
+by-answer due (Err e) ts ms more = left (fault e due) ts ms
+by-answer due (Ok p) ts ms more = more p ts ms
+
 -- a refused line ends the read, any other leads to the next
-abbrev pub after-line : ℕ → Result Place ReadReason → List TypeCell → List TermCell → (Place → List TypeCell → List TermCell → Outcome) → Outcome
-after-line due (Err e) ts ms more = left (fault e due) ts ms
-after-line due (Ok p) ts ms more = more p ts ms
+abbrev pub after-line : ℕ → Left (Result Place ReadReason) → (Place → List TypeCell → List TermCell → Outcome) → Outcome
+after-line due l more = by-answer due (l .answer) (l .types) (l .terms) more
 
 -- the ended lines, from the line that is due, and what stands after them
 abbrev pub reads : List (List ℕ) → ℕ → Place → List TypeCell → List TermCell → Outcome
 reads [] due p ts ms = left (closed [] due p) ts ms
 reads (rest ∷ []) due p ts ms = left (closed rest due p) ts ms
-reads (line ∷ next ∷ lines) due p ts ms =
-    let l = line-read p (said line) ts ms in
-    after-line due (l .answer) (l .types) (l .terms) (reads (next ∷ lines) (due + 1))
+reads (line ∷ next ∷ lines) due p ts ms = after-line due (line-read p (said line) ts ms) (reads (next ∷ lines) (due + 1))
 
 -- what reading a text leaves
 abbrev pub reading : List ℕ → List TypeCell → List TermCell → Outcome

@@ -29,4 +29,6 @@ pub returns-in-Some-parted-3 : need.returns-in-Some-parted-3
 returns-in-Some-parted-3 c =
     let third = then-cut (c .in-Some-parted-2 .ensures tt .parts) (c .in-Some-parted-3 .ensures tt .parts) in
     let parts = then-cut (c .in-Some .ensures tt .parts) (then-cut (c .in-Some-parted .ensures tt .parts) third) in
-    too-many (c .in-Some .letter .now) (c .in-Some-parted .first .now) (c .in-Some-parted-2 .second .now) (c .in-Some-parted-3 .field-0 .0 .now) (c .in-Some-parted-3 .field-0 .1 .now) ∙ by-fields (c .args .line .now) (c .eq .result) _ (c .eq .ensures) (c .if-eq .left) parts
+    let fourth = c .in-Some-parted-3 .field-0 in
+    too-many (c .in-Some .letter .now) (c .in-Some-parted .first .now) (c .in-Some-parted-2 .second .now) (fourth .0 .now) (fourth .1 .now)
+    ∙ by-fields (c .args .line .now) (c .eq .result) _ (c .eq .ensures) (c .if-eq .left) parts
