@@ -2,17 +2,16 @@
 use mathlib.Core.Path.{_≡_, refl, sym, ap, _∙_}
 use mathlib.Core.Bool.{Bool, true, false}
 use mathlib.Core.List.{List, [], _∷_}
-use mathlib.Core.Logic.{_⊎_, inl, inr, ⊎-elim}
+use mathlib.Core.Logic.{_⊎_, ⊎-elim}
 use Prim.Native.Nat.{ℕ, zero, suc, _+_, _-_, _<_, _≤_}
 use native.Mathlib.Omega.{arith}
 use lib.Dec.{ltb}
 use lib.ListN.{length, getD, drop}
 use Rattle.std.proofs.shelf.Lists.{getD-drop}
-use Rattle.std.proofs.shelf.Tests.{cond-both, ltb-true, ltb-false}
-use Rattle.registers.specs.Meaning.{counted}
+use Rattle.std.proofs.shelf.Tests.{cond-both, ltb-false}
 use Rattle.registers.specs.Handles.{first-free, free-from, next-free}
 use Rattle.registers.specs.Free.{next-at, next-below}
-use Rattle.registers.specs.Next.{Passed, Is-next, Next-is-found}
+use Rattle.registers.specs.Next.{Passed, Next-is-found}
 
 before-free : (l : List Bool) (k : ℕ) → k < first-free l → getD l k false ≡ true
 before-free [] k h = absurd (omega arith)

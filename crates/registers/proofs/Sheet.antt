@@ -1,8 +1,8 @@
 -- The answers of a register go through the rows of the sheet in the order of their numbers.
 use mathlib.Core.Path.{_≡_, refl, sym, ap, _∙_}
-use mathlib.Core.Bool.{Bool, true, false, not, _&&_, _||_}
+use mathlib.Core.Bool.{Bool, true, false, not}
 use mathlib.Core.List.{List, [], _∷_}
-use mathlib.Core.Logic.{_⊎_, inl, inr, ⊎-elim}
+use mathlib.Core.Logic.{_⊎_, ⊎-elim}
 use Prim.Native.Nat.{ℕ, zero, suc, _<_, _≤_}
 use native.Mathlib.Omega.{arith}
 use lib.Dec.{eqb, leb}
@@ -16,7 +16,7 @@ use Rattle.registers.specs.declared.fault.RegisterReason.the-variants.{NoPulse
 use Rattle.registers.specs.declared.fault.RegisterFault.{RegisterFault}
 use Rattle.registers.specs.Meaning.{Meaning, Live, counted}
 use Rattle.registers.specs.Answers.{number-of, prepare-answer, gate-answer, read-answer, let-go-answer, all-live, among, distinct}
-use Rattle.registers.specs.Sheet.{Call, to-prepare, to-gate, to-read, to-let-go, to-clear, Among, Twice, Holds, Exact, reason-of, Refusals-are-exact}
+use Rattle.registers.specs.Sheet.{to-prepare, to-gate, to-read, to-let-go, to-clear, Among, Twice, Holds, Exact, reason-of, Refusals-are-exact}
 
 not-all-live : (live : List Bool) (on : List ℕ) → all-live live on ≡ false → (h : ℕ) × Among h on × (getD live h false ≡ false)
 not-all-live live [] e = absurd (false≢true (sym e))

@@ -1,8 +1,8 @@
 -- Where there is room below the capacity, the next handle is below 32 and not live.
 use mathlib.Core.Path.{_≡_, refl, sym, _∙_}
-use mathlib.Core.Bool.{Bool, true, false, cond}
-use mathlib.Core.List.{List, [], _∷_, _++_}
-use Prim.Native.Nat.{ℕ, zero, suc, _+_, _<_, _≤_, min}
+use mathlib.Core.Bool.{Bool, true, false}
+use mathlib.Core.List.{List, [], _∷_}
+use Prim.Native.Nat.{ℕ, zero, suc, _<_, _≤_}
 use native.Mathlib.Omega.{arith}
 use native.Mathlib.Numerals.{one-add}
 use lib.Dec.{ltb}
@@ -11,7 +11,7 @@ use Rattle.std.proofs.shelf.Lists.{getD-drop, getD-take}
 use Rattle.std.proofs.shelf.Tests.{cond-both, ltb-true}
 use Rattle.calculus.specs.declared.gates.Gate.{Gate}
 use Rattle.registers.specs.declared.handles.Handles.{Handles}
-use Rattle.registers.specs.Meaning.{Owed, counted, none-live}
+use Rattle.registers.specs.Meaning.{Owed, counted}
 use Rattle.registers.specs.Handles.{first-free, free-from, next-free, places, room, next-handle, shown}
 
 pub places-wide : (l : List Bool) → length (places l) ≡ 32
