@@ -16,12 +16,15 @@ use Rattle.reader.specs.Lines.{header-line}
 use Rattle.reader.specs.Reading.{fault, reading}
 use Rattle.reader.specs.Stored.{text-of}
 
+-- the bytes of a sample
 abbrev spelled-out : List ℕ → List ℕ
 spelled-out text = map (λ b. cond (eqb b 47) 10 (cond (eqb b 32) 9 b)) text
 
+-- what the tables hold before
 abbrev a-kind : TypeCell
 a-kind = record { kind = 98 }
 
+-- the same for ops
 abbrev an-op : TermCell
 an-op = record { op = 48; argument = 0; claim = 0 }
 
@@ -29,6 +32,7 @@ pub record Sample : Type 0 where
   pub text : List ℕ
   pub answer : Result (ℕ × ℕ) ReadFault
 
+-- a text, and the answer that it gets
 abbrev gets : List ℕ → Result (ℕ × ℕ) ReadFault → Sample
 gets text answer = record { text = spelled-out text; answer = answer }
 

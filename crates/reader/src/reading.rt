@@ -4,7 +4,7 @@ ghost use mathlib.Core.Path.{_≡_};
 ghost use Prim.Native.Nat.{_≤_};
 ghost use Rattle.reader.specs.Lines.{said};
 ghost use Rattle.reader.specs.Reading.{agreeing, line-read, closed, reading};
-ghost use Rattle.reader.specs.Stored.{Done};
+ghost use Rattle.reader.specs.Stored.{Done, Bounded};
 use crate::cells::numbers;
 use crate::cells::put;
 use crate::cells::term_cell;
@@ -95,6 +95,7 @@ pub fn read(
     ensures types { λ _. ⌜ now (types .exit) ≡ reading (now (text .entry)) (now (types .entry)) (now (terms .entry)) .types ⌝ }
     ensures terms { λ _. ⌜ now (terms .exit) ≡ reading (now (text .entry)) (now (types .entry)) (now (terms .entry)) .terms ⌝ }
     ensures stored { λ r. ⌜ Done (now (text .entry)) (now (types .entry)) (now (terms .entry)) r (now (types .exit)) (now (terms .exit)) ⌝ }
+    ensures within { λ r. ⌜ Bounded r (now (types .entry)) (now (terms .entry)) ⌝ }
 {
     let mut place = Place {
         section: Section::Header,

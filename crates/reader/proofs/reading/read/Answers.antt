@@ -3,7 +3,7 @@ use native.Mathlib.Omega.{arith}
 use Rattle.std.specs.declared.result.Result.the-variants.{Ok, Err}
 use Rattle.reader.specs.declared.faults.ReadFault.{ReadFault}
 use Rattle.reader.specs.Reading.{Outcome, left}
-use Rattle.reader.proofs.Exacts.{done}
+use Rattle.reader.proofs.Exacts.{done, bounded}
 use Rattle.reader.proofs.Turns.{stepped, ends}
 use Rattle.reader.proofs.reading.read.Needs as need
 
@@ -29,6 +29,7 @@ returns-in-Err c =
       types = ap (λ (o : Outcome). o .types) e;
       terms = ap (λ (o : Outcome). o .terms) e;
       stored = done (c .args .text .now) (c .args .types .now) (c .args .terms .now) _ _ _ e;
+      within = bounded (c .args .text .now) (c .args .types .now) (c .args .terms .now) _ _ _ e;
     }
 
 pub returns : need.returns
@@ -42,4 +43,5 @@ returns c =
       types = ap (λ (o : Outcome). o .types) e;
       terms = ap (λ (o : Outcome). o .terms) e;
       stored = done (c .args .text .now) (c .args .types .now) (c .args .terms .now) _ _ _ e;
+      within = bounded (c .args .text .now) (c .args .types .now) (c .args .terms .now) _ _ _ e;
     }
