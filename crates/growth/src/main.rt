@@ -12,8 +12,8 @@ use stepper::Answer;
 use stepper::find;
 use stepper::next;
 
-/// How often each call is repeated for one time.
-const REPEATS: u32 = 200;
+/// How often each call is timed; the shortest time counts.
+const REPEATS: u32 = 400;
 
 fn cell(op: char) -> TermCell {
     TermCell {
@@ -37,22 +37,25 @@ fn conditions(heap: Global, layers: usize) -> Result<Vec<TermCell>, AllocError> 
     Ok(cells)
 }
 
-// The nanoseconds of a check of the cells, all of which claim a bit.
-fn check_time(rt: &LibcRuntime, cells: &[TermCell]) -> Result<u64, AnyError> {
-    let start = Instant::now(rt)?;
+// The shortest time of a check of the cells, all of which claim a bit, in nanoseconds.
+fn check_time(rt: &LibcRuntime, cells: &[TermCell]) -> Result<u128, AnyError> {
     let types = [TypeCell { kind: 'b' }];
+    let mut shortest = u128::MAX;
     for _ in 0..REPEATS {
+        let start = Instant::now(rt)?;
         if check(&types, cells).is_err() {
             return Err("the conditions are not accepted".into());
         }
+        shortest = shortest.min(start.elapsed(rt)?.as_nanos());
     }
-    Ok(nanoseconds(start.elapsed(rt)?.as_secs_f64()))
+    Ok(shortest)
 }
 
-// The nanoseconds of a step on the cells: the rule found, the next term counted and then written.
-fn step_time(rt: &LibcRuntime, cells: &[TermCell], work: &mut [TermCell]) -> Result<u64, AnyError> {
-    let start = Instant::now(rt)?;
+// The shortest time of a step on the cells, in nanoseconds: the rule found, the next term counted and then written.
+fn step_time(rt: &LibcRuntime, cells: &[TermCell], work: &mut [TermCell]) -> Result<u128, AnyError> {
+    let mut shortest = u128::MAX;
     for _ in 0..REPEATS {
+        let start = Instant::now(rt)?;
         let Ok(Some((rule, at))) = find(cells) else {
             return Err("the conditions have no step".into());
         };
@@ -60,13 +63,9 @@ fn step_time(rt: &LibcRuntime, cells: &[TermCell], work: &mut [TermCell]) -> Res
             return Err("the next term is too long".into());
         }
         let _ = next(cells, rule, at, Answer::Nothing, work);
+        shortest = shortest.min(start.elapsed(rt)?.as_nanos());
     }
-    Ok(nanoseconds(start.elapsed(rt)?.as_secs_f64()))
-}
-
-fn nanoseconds(seconds: f64) -> u64 {
-    let one = seconds * 1_000_000_000.0 / REPEATS as f64;
-    std::num::saturating_f64_to_u64(one)
+    Ok(shortest)
 }
 
 // One line: the size, the time and, after the first size, its ratio to the time before in hundredths.
@@ -74,8 +73,8 @@ fn report(
     rt: &LibcRuntime,
     what: &str,
     size: usize,
-    time: u64,
-    before: u64,
+    time: u128,
+    before: u128,
 ) -> Result<(), AnyError> {
     match time.saturating_mul(100).checked_div(before) {
         Some(ratio) => eprintln!(
