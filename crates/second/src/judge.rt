@@ -1,7 +1,6 @@
 //! The typing rules on trees: the first fault in tree order, and which variables a tree uses.
 
 ghost use Prim.Native.Nat.{_<_};
-use calculus::MOST_BINDERS;
 use crate::halt::Halt;
 use crate::halt::HaltFromAlloc;
 use crate::halt::HaltFromRefused;
@@ -12,6 +11,7 @@ use crate::kinds::same;
 use crate::trees::Constant;
 use crate::trees::Site;
 use crate::trees::Tree;
+use calculus::MOST_BINDERS;
 use std::alloc::AllocError;
 use std::alloc::Global;
 
@@ -33,7 +33,11 @@ fn qubits(heap: Global, gate: u16) -> Result<Kind, AllocError> {
         return Ok(Kind::Qubit(0));
     }
     let first = Box::new(heap, Kind::Qubit(0))?;
-    let rest = if gate < 7 { Kind::Qubit(0) } else { qubits(heap, 5)? };
+    let rest = if gate < 7 {
+        Kind::Qubit(0)
+    } else {
+        qubits(heap, 5)?
+    };
     Ok(Kind::Pair(0, first, Box::new(heap, rest)?))
 }
 
@@ -83,7 +87,13 @@ fn apart(site: Site, left: u64, right: u64, scope: &[Kind]) -> Result<u64, Halt>
 }
 
 // Tests a function's rule before its body, and enters its binder.
-fn enter_lambda(heap: Global, site: Site, body: Site, kinds: &[Kind], scope: &mut Vec<Kind>) -> Result<usize, Halt> {
+fn enter_lambda(
+    heap: Global,
+    site: Site,
+    body: Site,
+    kinds: &[Kind],
+    scope: &mut Vec<Kind>,
+) -> Result<usize, Halt> {
     if scope.len() >= MOST_BINDERS {
         return fault(24, site.cell);
     }
@@ -97,12 +107,22 @@ fn enter_lambda(heap: Global, site: Site, body: Site, kinds: &[Kind], scope: &mu
 }
 
 // Tests a split's rule before its parts, and answers what its binders have.
-fn open_split(heap: Global, site: Site, pair: Site, body: Site, kinds: &[Kind], scope: &[Kind]) -> Result<(Kind, Kind), Halt> {
+fn open_split(
+    heap: Global,
+    site: Site,
+    pair: Site,
+    body: Site,
+    kinds: &[Kind],
+    scope: &[Kind],
+) -> Result<(Kind, Kind), Halt> {
     if scope.len() + 2 > MOST_BINDERS {
         return fault(24, site.cell);
     }
     match claimed(kinds, pair)? {
-        Kind::Pair(marks, a, b) if same(claimed(kinds, body)?, claimed(kinds, site)?) => Ok((a.marked(heap, *marks)?, b.marked(heap, *marks)?)),
+        Kind::Pair(marks, a, b) if same(claimed(kinds, body)?, claimed(kinds, site)?) => Ok((
+            a.marked(heap, *marks)?,
+            b.marked(heap, *marks)?,
+        )),
         _ => fault(26, site.cell),
     }
 }
@@ -110,37 +130,62 @@ fn open_split(heap: Global, site: Site, pair: Site, body: Site, kinds: &[Kind], 
 // The rule of an application: its function claims exactly what its argument and it itself claim.
 fn test_apply(site: Site, function: Site, argument: Site, kinds: &[Kind]) -> Result<(), Halt> {
     match claimed(kinds, function)? {
-        Kind::Arrow(0, a, b) if same(claimed(kinds, argument)?, a) && same(claimed(kinds, site)?, b) => Ok(()),
+        Kind::Arrow(0, a, b)
+            if same(claimed(kinds, argument)?, a) && same(claimed(kinds, site)?, b) => Ok(()),
         _ => fault(26, site.cell),
     }
 }
 
 // Whether a part of a marked pair claims the component under the pair's marks.
-fn is_component(heap: Global, claim: &Kind, component: &Kind, marks: usize) -> Result<bool, AllocError> {
+fn is_component(
+    heap: Global,
+    claim: &Kind,
+    component: &Kind,
+    marks: usize,
+) -> Result<bool, AllocError> {
     Ok(same(claim, &component.marked(heap, marks)?))
 }
 
-fn test_pair(heap: Global, site: Site, left: Site, right: Site, kinds: &[Kind]) -> Result<(), Halt> {
+fn test_pair(
+    heap: Global,
+    site: Site,
+    left: Site,
+    right: Site,
+    kinds: &[Kind],
+) -> Result<(), Halt> {
     let Kind::Pair(marks, a, b) = claimed(kinds, site)? else {
         return fault(26, site.cell);
     };
-    if is_component(heap, claimed(kinds, left)?, a, *marks)? && is_component(heap, claimed(kinds, right)?, b, *marks)? {
+    if is_component(heap, claimed(kinds, left)?, a, *marks)?
+        && is_component(heap, claimed(kinds, right)?, b, *marks)?
+    {
         return Ok(());
     }
     fault(26, site.cell)
 }
 
-fn test_choose(site: Site, condition: Site, one: Site, zero: Site, kinds: &[Kind]) -> Result<(), Halt> {
+fn test_choose(
+    site: Site,
+    condition: Site,
+    one: Site,
+    zero: Site,
+    kinds: &[Kind],
+) -> Result<(), Halt> {
     let claim = claimed(kinds, site)?;
     match claimed(kinds, condition)? {
-        Kind::Bit(0) if same(claimed(kinds, one)?, claim) && same(claimed(kinds, zero)?, claim) => Ok(()),
+        Kind::Bit(0) if same(claimed(kinds, one)?, claim) && same(claimed(kinds, zero)?, claim) =>
+            Ok(()),
         _ => fault(26, site.cell),
     }
 }
 
 // What a body's uses are outside its binders, the levels below.
 fn outside(used: u64, level: usize) -> u64 {
-    if level < 64 { used & ((1u64 << level) - 1) } else { used }
+    if level < 64 {
+        used & ((1u64 << level) - 1)
+    } else {
+        used
+    }
 }
 
 // A function with marks may use no outer variable that may be used once only.
@@ -152,12 +197,21 @@ fn leave_lambda(site: Site, marks: usize, outer: u64, scope: &[Kind]) -> Result<
 }
 
 /// The levels of the variables that a tree uses, or the first fault in tree order.
-pub fn judge(heap: Global, tree: &Tree, kinds: &[Kind], scope: &mut Vec<Kind>) -> Result<u64, Halt> {
+pub fn judge(
+    heap: Global,
+    tree: &Tree,
+    kinds: &[Kind],
+    scope: &mut Vec<Kind>,
+) -> Result<u64, Halt> {
     let level = scope.len();
     match tree {
         Tree::Variable(site, index) => variable(*site, *index, kinds, scope),
         Tree::Constant(site, leaf) => {
-            if is_typed(heap, *leaf, claimed(kinds, *site)?)? { Ok(0) } else { fault(26, site.cell) }
+            if is_typed(heap, *leaf, claimed(kinds, *site)?)? {
+                Ok(0)
+            } else {
+                fault(26, site.cell)
+            }
         }
         Tree::Lambda(site, body) => {
             let marks = enter_lambda(heap, *site, body.site(), kinds, scope)?;

@@ -2,12 +2,12 @@
 
 ghost use mathlib.Core.Path.{_≡_};
 ghost use Rattle.second.specs.Tables.{parts, kind-parts};
+use crate::halt::Halt;
+use crate::halt::fault;
 use calculus::MOST_TERM_CELLS;
 use calculus::MOST_TYPE_CELLS;
 use calculus::TermCell;
 use calculus::TypeCell;
-use crate::halt::Halt;
-use crate::halt::fault;
 
 /// How many trees follow an op as its parts.
 pub fn op_parts(op: char) -> usize

@@ -3,14 +3,14 @@
 ghost use Prim.Native.Nat.{_<_, _≤_};
 ghost use lib.ListN.{length};
 ghost use Rattle.std.specs.Options.{Cases as BySome};
-use calculus::MOST_TERM_CELLS;
-use calculus::MOST_TYPE_CELLS;
-use calculus::TermCell;
-use calculus::TypeCell;
 use crate::halt::Halt;
 use crate::halt::HaltFromAlloc;
 use crate::halt::HaltFromRefused;
 use crate::halt::fault;
+use calculus::MOST_TERM_CELLS;
+use calculus::MOST_TYPE_CELLS;
+use calculus::TermCell;
+use calculus::TypeCell;
 use std::alloc::AllocError;
 use std::alloc::Global;
 
@@ -71,7 +71,11 @@ fn letter(field: &[u8], letters: &[u8]) -> Option<char> {
         return None;
     }
     let byte = field[0];
-    if letters.contains(&byte) { Some(byte as char) } else { None }
+    if letters.contains(&byte) {
+        Some(byte as char)
+    } else {
+        None
+    }
 }
 
 fn type_line(stored: &mut Stored, kind: &[u8], line: usize) -> Result<Section, Halt> {
@@ -85,7 +89,13 @@ fn type_line(stored: &mut Stored, kind: &[u8], line: usize) -> Result<Section, H
     Ok(Section::Types)
 }
 
-fn term_line(stored: &mut Stored, op: &[u8], argument: &[u8], claim: &[u8], line: usize) -> Result<Section, Halt> {
+fn term_line(
+    stored: &mut Stored,
+    op: &[u8],
+    argument: &[u8],
+    claim: &[u8],
+    line: usize,
+) -> Result<Section, Halt> {
     let Some(op) = letter(op, b"v01mnsglapdiq") else {
         return fault(12, line);
     };
@@ -95,7 +105,13 @@ fn term_line(stored: &mut Stored, op: &[u8], argument: &[u8], claim: &[u8], line
     if stored.terms.len() >= MOST_TERM_CELLS {
         return fault(14, line);
     }
-    stored.terms.push(TermCell { op, argument, claim })?;
+    stored
+        .terms
+        .push(TermCell {
+            op,
+            argument,
+            claim,
+        })?;
     Ok(Section::Terms)
 }
 
@@ -107,11 +123,21 @@ fn end_line(types: &[u8], terms: &[u8], line: usize) -> Result<Section, Halt> {
 }
 
 fn header_line(bytes: &[u8]) -> Result<Section, Halt> {
-    if bytes == b"QL\t1" { Ok(Section::Types) } else { fault(11, 1) }
+    if bytes == b"QL\t1" {
+        Ok(Section::Types)
+    } else {
+        fault(11, 1)
+    }
 }
 
 // Reads one ended line, the first being line 1.
-fn read_line(heap: Global, stored: &mut Stored, section: Section, bytes: &[u8], line: usize) -> Result<Section, Halt> {
+fn read_line(
+    heap: Global,
+    stored: &mut Stored,
+    section: Section,
+    bytes: &[u8],
+    line: usize,
+) -> Result<Section, Halt> {
     if let Section::Header = section {
         return header_line(bytes);
     }
@@ -141,7 +167,12 @@ fn read_line(heap: Global, stored: &mut Stored, section: Section, bytes: &[u8], 
 }
 
 // What the lines come to: nothing may follow the end line, which the last line is, and its counts are those of the cells.
-fn finish(stored: Stored, section: Section, line: usize, after_last: usize) -> Result<Stored, Halt> {
+fn finish(
+    stored: Stored,
+    section: Section,
+    line: usize,
+    after_last: usize,
+) -> Result<Stored, Halt> {
     match section {
         Section::Ended(_, _) if after_last > 0 => fault(12, line.saturating_add(1)),
         Section::Ended(types, terms) => {

@@ -1,12 +1,12 @@
 //! Cells as boxed trees: types by place, and the term.
 
-use calculus::TermCell;
-use calculus::TypeCell;
 use crate::halt::Halt;
 use crate::halt::HaltFromAlloc;
 use crate::halt::HaltFromRefused;
 use crate::halt::fault;
 use crate::kinds::Kind;
+use calculus::TermCell;
+use calculus::TypeCell;
 use std::alloc::Global;
 
 /// A term without parts that is no variable; gates and qubits have their number.
@@ -67,7 +67,11 @@ fn kind_of(heap: Global, kind: char, stack: &mut Vec<Kind>) -> Result<Kind, Halt
             };
             let a = Box::new(heap, a)?;
             let b = Box::new(heap, b)?;
-            if kind == '>' { Ok(Kind::Arrow(0, a, b)) } else { Ok(Kind::Pair(0, a, b)) }
+            if kind == '>' {
+                Ok(Kind::Arrow(0, a, b))
+            } else {
+                Ok(Kind::Pair(0, a, b))
+            }
         }
     }
 }
@@ -117,7 +121,12 @@ fn tree_of(heap: Global, cell: &TermCell, at: usize, stack: &mut Vec<Tree>) -> R
         'a' => Ok(Tree::Apply(site, part(heap, stack)?, part(heap, stack)?)),
         'p' => Ok(Tree::Pair(site, part(heap, stack)?, part(heap, stack)?)),
         'd' => Ok(Tree::Split(site, part(heap, stack)?, part(heap, stack)?)),
-        'i' => Ok(Tree::Choose(site, part(heap, stack)?, part(heap, stack)?, part(heap, stack)?)),
+        'i' => Ok(Tree::Choose(
+            site,
+            part(heap, stack)?,
+            part(heap, stack)?,
+            part(heap, stack)?,
+        )),
         op => match bare(op, cell.argument) {
             Some(leaf) => Ok(Tree::Constant(site, leaf)),
             None => fault(21, at),
