@@ -164,6 +164,20 @@ fn test_pair(
     fault(26, site.cell)
 }
 
+// The rule of an application or a pair, before its parts.
+fn test_both(heap: Global, tree: &Tree, kinds: &[Kind]) -> Result<(), Halt> {
+    match tree {
+        Tree::Apply(site, function, argument) => test_apply(
+            *site,
+            function.site(),
+            argument.site(),
+            kinds,
+        ),
+        Tree::Pair(site, left, right) => test_pair(heap, *site, left.site(), right.site(), kinds),
+        _ => Ok(()),
+    }
+}
+
 fn test_choose(
     site: Site,
     condition: Site,
@@ -219,13 +233,8 @@ pub fn judge(
             scope.truncate(level);
             leave_lambda(*site, marks, outside(used, level), scope)
         }
-        Tree::Apply(site, function, argument) => {
-            test_apply(*site, function.site(), argument.site(), kinds)?;
-            let left = judge(heap, function, kinds, scope)?;
-            apart(*site, left, judge(heap, argument, kinds, scope)?, scope)
-        }
-        Tree::Pair(site, left, right) => {
-            test_pair(heap, *site, left.site(), right.site(), kinds)?;
+        Tree::Apply(site, left, right) | Tree::Pair(site, left, right) => {
+            test_both(heap, tree, kinds)?;
             let first = judge(heap, left, kinds, scope)?;
             apart(*site, first, judge(heap, right, kinds, scope)?, scope)
         }

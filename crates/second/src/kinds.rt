@@ -2,6 +2,7 @@
 
 ghost use mathlib.Core.Path.{_≡_};
 ghost use Rattle.second.specs.Kinds.{marks-of};
+use calculus::TypeCell;
 use std::alloc::AllocError;
 use std::alloc::Global;
 
@@ -42,6 +43,33 @@ impl Kind {
                 let b = Box::new(heap, b.marked(heap, 0)?)?;
                 Ok(Kind::Pair(n.saturating_add(more), a, b))
             }
+        }
+    }
+}
+
+fn add(cells: &mut Vec<TypeCell>, kind: char) -> Result<(), AllocError> {
+    cells.push(TypeCell { kind })?;
+    Ok(())
+}
+
+/// Writes a type's cells behind others.
+pub fn write_kind(kind: &Kind, cells: &mut Vec<TypeCell>) -> Result<(), AllocError> {
+    for _ in 0..kind.marks() {
+        add(cells, '!')?;
+    }
+    match kind {
+        Kind::Bit(_) => add(cells, 'b'),
+        Kind::Qubit(_) => add(cells, 'q'),
+        Kind::Unit(_) => add(cells, 'u'),
+        Kind::Arrow(_, a, b) => {
+            add(cells, '>')?;
+            write_kind(a, cells)?;
+            write_kind(b, cells)
+        }
+        Kind::Pair(_, a, b) => {
+            add(cells, '*')?;
+            write_kind(a, cells)?;
+            write_kind(b, cells)
         }
     }
 }

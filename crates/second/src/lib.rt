@@ -17,6 +17,8 @@ mod trees;
 pub use halt::Halt;
 pub use kinds::Kind;
 pub use kinds::is_below;
+pub use kinds::same;
+pub use kinds::write_kind;
 pub use seeks::Place;
 pub use seeks::PlaceDebug;
 pub use seeks::PlacePartialEq;

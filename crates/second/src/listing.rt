@@ -4,6 +4,7 @@ ghost use mathlib.Core.Path.{_≡_};
 ghost use Prim.Native.Nat.{_≤_};
 ghost use lib.ListN.{length};
 use crate::kinds::Kind;
+use crate::kinds::write_kind;
 use crate::tape::Pulse;
 use crate::terms::Term;
 use crate::trees::Constant;
@@ -62,31 +63,16 @@ impl Listing {
         self.line(line.as_str())
     }
 
-    fn marks(&mut self, marks: usize) -> Result<(), AllocError> {
-        for _ in 0..marks {
-            self.line("T !")?;
-        }
-        Ok(())
-    }
-
     /// The cells of a type.
     pub fn kind(&mut self, kind: &Kind) -> Result<(), AllocError> {
-        self.marks(kind.marks())?;
-        match kind {
-            Kind::Bit(_) => self.line("T b"),
-            Kind::Qubit(_) => self.line("T q"),
-            Kind::Unit(_) => self.line("T u"),
-            Kind::Arrow(_, a, b) => {
-                self.line("T >")?;
-                self.kind(a)?;
-                self.kind(b)
-            }
-            Kind::Pair(_, a, b) => {
-                self.line("T *")?;
-                self.kind(a)?;
-                self.kind(b)
-            }
+        let mut cells = Vec::new(self.heap);
+        write_kind(kind, &mut cells)?;
+        for cell in cells.iter() {
+            let kind = cell.kind;
+            let line = format!(self.heap, "T {kind}")?;
+            self.line(line.as_str())?;
         }
+        Ok(())
     }
 
     fn numbered(&mut self, op: char, argument: usize) -> Result<(), AllocError> {
