@@ -29,7 +29,8 @@ fn stands_at(types: &[TypeCell], code: &[TypeCell], place: usize) -> bool {
     true
 }
 
-fn as_claim(place: usize) -> u16 {
+/// A place as a claim holds it.
+pub(crate) fn as_claim(place: usize) -> u16 {
     u16::try_from(place).unwrap_or(u16::MAX)
 }
 
@@ -57,6 +58,22 @@ impl Draft {
         }
         self.types.extend_from_slice(&code)?;
         Ok(as_claim(end))
+    }
+
+    /// More type cells, by their letters.
+    pub fn kinds(&mut self, letters: &str) -> Result<(), AllocError> {
+        for kind in letters.chars() {
+            self.types.push(TypeCell { kind })?;
+        }
+        Ok(())
+    }
+
+    /// More term cells, each by its op, argument and claim.
+    pub fn cells(&mut self, cells: &[(char, u16, u16)]) -> Result<(), AllocError> {
+        for (op, argument, claim) in cells {
+            self.cell(*op, *argument, *claim)?;
+        }
+        Ok(())
     }
 
     /// One more term cell, which claims a place.
