@@ -1,9 +1,11 @@
 //! Prefix trees over a slice of cells of any kind: a tree is a cell followed by the trees of its parts.
 
+ghost use mathlib.Core.Bool.{Bool};
 ghost use mathlib.Core.List.{_++_};
 ghost use mathlib.Core.Path.{_≡_};
 ghost use Prim.Native.Nat.{ℕ, _-_, _≤_};
 ghost use lib.ListN.{length, take, drop};
+ghost use Rattle.trees.specs.Failing.{first-failing};
 ghost use Rattle.trees.specs.Reach.{ends, copied-count, fronted, Reach-laws};
 ghost use Rattle.trees.specs.Whole.{counted};
 
@@ -68,6 +70,27 @@ pub fn count<T: Cell>(cells: &[T]) -> Option<usize>
         trees = trees - parts + 1;
     }
     Some(trees)
+}
+
+/// A test of a cell.
+pub trait Test<T> {
+    // Whether a cell passes.
+    ghost holds: { Self → T → Bool };
+
+    fn passes(&self, cell: T) -> bool
+        ensures { λ r. ⌜ r ≡ holds (now (self .entry)) cell ⌝ };
+}
+
+/// The place of the first cell that fails a test.
+pub fn first_failing<T: Copy, F: Test<T>>(test: &F, cells: &[T]) -> Option<usize>
+    ensures { λ r. ⌜ r ≡ first-failing (holds (now (test .entry))) (now (cells .entry)) 0 ⌝ }
+{
+    for i in 0..cells.len() {
+        if !test.passes(cells[i]) {
+            return Some(i);
+        }
+    }
+    None
 }
 
 /// How far trees reach follows the same laws for cells of every kind.

@@ -1,0 +1,6 @@
+pub mod Ending
+pub mod Faults
+pub mod Relating
+pub mod Rules
+pub mod Scoping
+pub mod Tables

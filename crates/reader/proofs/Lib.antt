@@ -1,0 +1,11 @@
+pub mod Back
+pub mod Came
+pub mod Cuts
+pub mod Decimals
+pub mod Exacts
+pub mod Forms
+pub mod Marks
+pub mod Spellings
+pub mod Tables
+pub mod Turns
+pub mod Values

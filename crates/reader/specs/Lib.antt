@@ -1,0 +1,7 @@
+pub mod Cells
+pub mod Faults
+pub mod Lines
+pub mod Numbers
+pub mod Pieces
+pub mod Reading
+pub mod Stored

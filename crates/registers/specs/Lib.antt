@@ -1,0 +1,10 @@
+pub mod Meaning
+pub mod Answers
+pub mod Sheet
+pub mod Room
+pub mod Handles
+pub mod Next
+pub mod Free
+pub mod Bits
+pub mod Journal
+pub mod Layers
