@@ -1,0 +1,143 @@
+QL	1
+T	b
+T	>
+T	b
+T	b
+T	>
+T	!
+T	>
+T	b
+T	b
+T	>
+T	b
+T	b
+T	>
+T	q
+T	b
+T	>
+T	q
+T	q
+T	>
+T	b
+T	q
+M	a	0	0
+M	l	0	1
+M	a	0	0
+M	a	0	1
+M	l	0	4
+M	l	0	1
+M	a	0	0
+M	v	1	1
+M	a	0	0
+M	v	1	1
+M	v	0	0
+M	l	0	5
+M	a	0	0
+M	a	0	1
+M	l	0	4
+M	l	0	1
+M	a	0	0
+M	v	1	1
+M	a	0	0
+M	v	1	1
+M	v	0	0
+M	l	0	5
+M	a	0	0
+M	a	0	1
+M	l	0	4
+M	l	0	1
+M	a	0	0
+M	v	1	1
+M	a	0	0
+M	v	1	1
+M	v	0	0
+M	l	0	5
+M	a	0	0
+M	a	0	1
+M	l	0	4
+M	l	0	1
+M	a	0	0
+M	v	1	1
+M	a	0	0
+M	v	1	1
+M	v	0	0
+M	l	0	5
+M	a	0	0
+M	a	0	1
+M	l	0	4
+M	l	0	1
+M	a	0	0
+M	v	1	1
+M	a	0	0
+M	v	1	1
+M	v	0	0
+M	l	0	5
+M	a	0	0
+M	a	0	1
+M	l	0	4
+M	l	0	1
+M	a	0	0
+M	v	1	1
+M	a	0	0
+M	v	1	1
+M	v	0	0
+M	l	0	5
+M	a	0	0
+M	a	0	1
+M	l	0	4
+M	l	0	1
+M	a	0	0
+M	v	1	1
+M	a	0	0
+M	v	1	1
+M	v	0	0
+M	l	0	5
+M	a	0	0
+M	a	0	1
+M	l	0	4
+M	l	0	1
+M	a	0	0
+M	v	1	1
+M	a	0	0
+M	v	1	1
+M	v	0	0
+M	l	0	5
+M	a	0	0
+M	a	0	1
+M	l	0	4
+M	l	0	1
+M	a	0	0
+M	v	1	1
+M	a	0	0
+M	v	1	1
+M	v	0	0
+M	l	0	5
+M	a	0	0
+M	a	0	1
+M	l	0	4
+M	l	0	1
+M	a	0	0
+M	v	1	1
+M	a	0	0
+M	v	1	1
+M	v	0	0
+M	l	0	5
+M	v	0	0
+M	v	0	0
+M	v	0	0
+M	v	0	0
+M	v	0	0
+M	v	0	0
+M	v	0	0
+M	v	0	0
+M	v	0	0
+M	v	0	0
+M	v	0	0
+M	a	0	0
+M	m	0	12
+M	a	0	13
+M	g	0	15
+M	a	0	13
+M	n	0	18
+M	0	0	0
+E	21	120
