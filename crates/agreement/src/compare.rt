@@ -1,14 +1,18 @@
 //! The comparisons: of whole shots, of checks, and of finders.
 
-use calculus::TermCell;
-use checker::check;
-use listing::shot;
 use crate::tally::GOES_ON;
 use crate::tally::Subject;
 use crate::tally::Tally;
 use crate::tally::VALUE;
+use calculus::TermCell;
+use calculus::TermCellDebug;
+use checker::check;
+use listing::listing;
+use listing::play;
 use samples::Draft;
 use second::Place;
+use second::PlaceDebug;
+use second::PlacePartialEq;
 use second::SecondRule;
 use second::second_check;
 use second::second_find;
@@ -18,16 +22,17 @@ use std::alloc::Global;
 use std::io;
 use stepper::Rule;
 use stepper::find;
-use calculus::TermCellDebug;
-use second::PlaceDebug;
-use second::PlacePartialEq;
 
 /// How many bytes of a program are read.
 const MOST_BYTES: usize = 16_384;
 
 // The part of a text that is read.
 fn seen(text: &[u8]) -> &[u8] {
-    if text.len() > MOST_BYTES { &text[0..MOST_BYTES] } else { text }
+    if text.len() > MOST_BYTES {
+        &text[0..MOST_BYTES]
+    } else {
+        text
+    }
 }
 
 // The number that a listing refuses by, or else how it stopped.
@@ -58,7 +63,7 @@ pub fn shown(heap: Global, text: &[u8]) -> Result<String, AllocError> {
 pub fn compare_shots(rt: &LibcRuntime, tally: &mut Tally, text: &[u8]) -> io::Result<bool> {
     let heap = tally.heap();
     let text = seen(text);
-    let first = shot(heap, text)?;
+    let first = listing(heap, &play(heap, text)?)?;
     let second = second_shot(heap, text)?;
     if first.as_bytes() == second.as_bytes() {
         tally.agree(Subject::Shot, outcome(first.as_str()))?;
@@ -66,7 +71,10 @@ pub fn compare_shots(rt: &LibcRuntime, tally: &mut Tally, text: &[u8]) -> io::Re
     }
     tally.differ();
     let program = shown(heap, text)?;
-    println!(rt, "difference in the shots of\n{program}\nfirst\n{first}second\n{second}")?;
+    println!(
+        rt,
+        "difference in the shots of\n{program}\nfirst\n{first}second\n{second}"
+    )?;
     Ok(false)
 }
 
@@ -87,7 +95,10 @@ pub fn compare_checks(rt: &LibcRuntime, tally: &mut Tally, draft: &Draft) -> io:
     }
     tally.differ();
     let program = draft.text()?;
-    println!(rt, "difference in the checks of\n{program}first {first:?}\nsecond {second:?}")
+    println!(
+        rt,
+        "difference in the checks of\n{program}first {first:?}\nsecond {second:?}"
+    )
 }
 
 // The second interpreter's name of a rule.
@@ -121,5 +132,8 @@ pub fn compare_finds(rt: &LibcRuntime, tally: &mut Tally, cells: &[TermCell]) ->
         return Ok(());
     }
     tally.differ();
-    println!(rt, "difference in the finds of\n{cells:?}\nfirst {first:?}\nsecond {second:?}")
+    println!(
+        rt,
+        "difference in the finds of\n{cells:?}\nfirst {first:?}\nsecond {second:?}"
+    )
 }

@@ -12,7 +12,8 @@ use std::io;
 // The name and the length of an example, from the line before it.
 fn heading(heap: Global, line: &str) -> Result<Option<(String, usize)>, AllocError> {
     let mut fields = line.split(' ');
-    let (Some(mark), Some(name), Some(length)) = (fields.next(), fields.next(), fields.next()) else {
+    let (Some(mark), Some(name), Some(length)) = (fields.next(), fields.next(), fields.next())
+    else {
         return Ok(None);
     };
     match length.parse::<usize>() {
@@ -22,7 +23,12 @@ fn heading(heap: Global, line: &str) -> Result<Option<(String, usize)>, AllocErr
 }
 
 // Compares the two interpreters on one example.
-fn compare_example(rt: &LibcRuntime, tally: &mut Tally, name: &str, program: &[u8]) -> io::Result<()> {
+fn compare_example(
+    rt: &LibcRuntime,
+    tally: &mut Tally,
+    name: &str,
+    program: &[u8],
+) -> io::Result<()> {
     if compare_shots(rt, tally, program)? {
         println!(rt, "example {name} agreed")
     } else {

@@ -37,7 +37,11 @@ fn add(counts: &mut BTreeMap<u16, usize>, outcome: u16) -> Result<(), AllocError
     Ok(())
 }
 
-fn print_counts(rt: &LibcRuntime, counts: &BTreeMap<u16, usize>, names: [&str; 3]) -> io::Result<()> {
+fn print_counts(
+    rt: &LibcRuntime,
+    counts: &BTreeMap<u16, usize>,
+    names: [&str; 3],
+) -> io::Result<()> {
     for (outcome, count) in counts.iter() {
         let outcome = *outcome;
         let count = *count;
@@ -91,7 +95,11 @@ impl Tally {
     /// A line for each outcome, then how many differences there are, and how many programs agreed.
     pub fn print(&self, rt: &LibcRuntime) -> io::Result<()> {
         print_counts(rt, &self.shots, ["value", "budget", "refused"])?;
-        print_counts(rt, &self.checks, ["check accepted", "check", "check refused"])?;
+        print_counts(
+            rt,
+            &self.checks,
+            ["check accepted", "check", "check refused"],
+        )?;
         print_counts(rt, &self.finds, ["find value", "find rule", "find refused"])?;
         let differences = self.differences;
         let compared = self.compared;
