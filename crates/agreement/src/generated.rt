@@ -14,6 +14,7 @@ use samples::damage_cells;
 use samples::damage_text;
 use samples::doublings;
 use samples::entangled;
+use samples::long_line;
 use samples::marks;
 use samples::pulses;
 use samples::rounds;
@@ -60,6 +61,9 @@ fn compare_sizes(rt: &LibcRuntime, tally: &mut Tally) -> io::Result<()> {
     for cells in 254..259 {
         compare_draft(rt, tally, &type_cells(heap, cells)?)?;
         compare_draft(rt, tally, &marks(heap, cells)?)?;
+    }
+    for bytes in 16_382..16_388 {
+        compare_shots(rt, tally, &long_line(heap, bytes)?)?;
     }
     for cells in 508..516 {
         compare_draft(rt, tally, &term_cells(heap, cells)?)?;

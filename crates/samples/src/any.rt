@@ -62,7 +62,7 @@ pub fn any_kind(
     holds_qubits: bool,
 ) -> Result<Kind, AllocError> {
     let marks = any_marks(random);
-    let choice = random.below(if depth == 0 { 6 } else { 14 });
+    let choice = random.below(if depth == 0 { 6 } else { 15 });
     match choice {
         0 | 1 => Ok(Kind::Bit(marks)),
         2 => Ok(Kind::Unit(marks)),
@@ -72,6 +72,7 @@ pub fn any_kind(
             Kind::Bit(1)
         }),
         _ if depth == 0 => Ok(Kind::Bit(0)),
+        14 if holds_qubits => operands(heap, if random.chance(50) { 5 } else { 7 }),
         6..=9 => {
             let a = any_kind(random, heap, depth - 1, true)?;
             arrow(heap, marks, a, any_kind(random, heap, depth - 1, true)?)

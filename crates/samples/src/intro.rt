@@ -63,22 +63,20 @@ impl Maker {
         self.due(&Kind::Bit(0), fuel)
     }
 
-    // A gate on qubits of a type, if one drawn at random takes that type.
+    // A gate on qubits of a type, if it is the type of a gate's operands.
     fn gated(&mut self, random: &mut Random, kind: &Kind, fuel: u32) -> Result<bool, AllocError> {
-        let gate = u16::try_from(random.below(8)).unwrap_or(0);
-        if !same(kind, &operands(self.heap, gate)?) {
-            return Ok(false);
+        let start = random.below(8);
+        for i in 0..8 {
+            let gate = u16::try_from((start % 8 + i) % 8).unwrap_or(0);
+            if same(kind, &operands(self.heap, gate)?) {
+                self.emit(random, 'a', 0, kind)?;
+                let function = arrow(self.heap, 0, kind.marked(self.heap, 0)?, kind.marked(self.heap, 0)?)?;
+                self.emit(random, 'g', gate, &function)?;
+                self.due(kind, fuel)?;
+                return Ok(true);
+            }
         }
-        self.emit(random, 'a', 0, kind)?;
-        let function = arrow(
-            self.heap,
-            0,
-            kind.marked(self.heap, 0)?,
-            kind.marked(self.heap, 0)?,
-        )?;
-        self.emit(random, 'g', gate, &function)?;
-        self.due(kind, fuel)?;
-        Ok(true)
+        Ok(false)
     }
 
     fn pair_value(

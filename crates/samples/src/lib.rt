@@ -16,6 +16,7 @@ pub use limits::binders;
 pub use limits::copies;
 pub use limits::doublings;
 pub use limits::entangled;
+pub use limits::long_line;
 pub use limits::marks;
 pub use limits::pulses;
 pub use limits::rounds;

@@ -255,3 +255,13 @@ pub fn entangled(heap: Global, gate: u16) -> Result<Draft, AllocError> {
     draft.cells(&[('a', 0, 1), ('v', 0, 4), ('s', 0, 29)])?;
     Ok(draft)
 }
+
+/// A text of so many bytes, whose second line is too long for a line and ends the text.
+pub fn long_line(heap: Global, bytes: usize) -> Result<Vec<u8>, AllocError> {
+    let mut text = Vec::from_slice(heap, b"QL\t1\nT\t")?;
+    for _ in 8..bytes {
+        text.push(b'b')?;
+    }
+    text.push(b'\n')?;
+    Ok(text)
+}

@@ -149,7 +149,7 @@ impl Maker {
 
     // Emits the root of a term and leaves its parts to be made.
     fn make(&mut self, random: &mut Random, kind: &Kind, fuel: u32) -> Result<(), AllocError> {
-        if random.chance(50) {
+        if random.chance(65) {
             if let Some(level) = self.pick(random, kind) {
                 return self.variable(random, level, kind);
             }
