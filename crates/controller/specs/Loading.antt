@@ -1,5 +1,6 @@
 -- What a load makes of a program's cells, and when it is refused.
 use mathlib.Core.Bool.{Bool, true, false, cond}
+use mathlib.Core.List.{List}
 use mathlib.Core.Path.{_≡_}
 use Prim.Native.Nat.{ℕ}
 use lib.Dec.{eqb, ltb}
@@ -8,6 +9,7 @@ use Rattle.std.specs.declared.option.Option.{Option}
 use Rattle.std.specs.declared.option.Option.the-variants.{Some, None}
 use Rattle.std.specs.declared.result.Result.{Result}
 use Rattle.std.specs.declared.result.Result.the-variants.{Err}
+use Rattle.trees.specs.Failing.{first-failing}
 use Rattle.calculus.specs.Gates.{gate-of}
 use Rattle.calculus.specs.declared.cells.TermCell.{TermCell}
 use Rattle.calculus.specs.declared.gates.Gate.{Gate}
@@ -24,6 +26,10 @@ gate-made makes (Some g) = makes g
 -- the cell names no gate, or one that is made
 abbrev pub is-made : (Gate → Bool) → TermCell → Bool
 is-made makes c = cond (eqb (c .op) 103) (gate-made makes (gate-of (c .argument))) true
+
+-- the first cell that names a gate which is not made
+abbrev pub first-unmade : (Gate → Bool) → List TermCell → Option ℕ
+first-unmade makes cs = first-failing (is-made makes) cs 0
 
 -- a load while a term of so many cells runs, after so many steps, is refused; else one that names a gate not made, with its cell
 abbrev unmade : Option ℕ → Result ℕ Refusal → Type 0

@@ -3,8 +3,7 @@
 ghost use mathlib.Core.Path.{_≡_};
 ghost use Prim.Native.Nat.{_≤_};
 ghost use Rattle.std.specs.Results.{Cases};
-ghost use Rattle.controller.specs.Loading.{LoadAnswer, is-made};
-ghost use Rattle.trees.specs.Failing.{first-failing};
+ghost use Rattle.controller.specs.Loading.{LoadAnswer, first-unmade};
 use crate::faults::Refusal;
 use crate::faults::Stop;
 use crate::shot::Shot;
@@ -34,7 +33,7 @@ impl<R: Register> Controller<R> {
 
     /// Loads an accepted program, and answers the cell count of its term.
     pub fn load(&mut self, program: &Accepted) -> Result<usize, Refusal>
-        ensures answer { λ r. ⌜ LoadAnswer (now (self .entry) .shot .len) (now (self .entry) .shot .steps) (first-failing (is-made (R·Register .meaning (now (self .entry) .register) .makes)) (now (now (program .entry) .terms)) 0) r ⌝ }
+        ensures answer { λ r. ⌜ LoadAnswer (now (self .entry) .shot .len) (now (self .entry) .shot .steps) (first-unmade (R·Register .meaning (now (self .entry) .register) .makes) (now (now (program .entry) .terms))) r ⌝ }
         ensures refused { λ r. ⌜ Cases r (λ _. Unit {0}) (λ _. now (self .exit) ≡ now (self .entry)) ⌝ }
     {
         self.shot.load(&self.register, program)
@@ -60,7 +59,9 @@ impl<R: Register> Controller<R> {
         value: &mut [TermCell],
         kinds: &mut [TypeCell],
     ) -> Result<(usize, usize), Refusal>
-        ensures { λ r. ⌜ Cases r (λ _. now (self .exit) .shot .len ≡ 0) (λ _. (now (self .exit) ≡ now (self .entry)) × (now (value .exit) ≡ now (value .entry)) × (now (kinds .exit) ≡ now (kinds .entry))) ⌝ }
+        ensures { λ r. ⌜ Cases r
+            (λ _. now (self .exit) .shot .len ≡ 0)
+            (λ _. (now (self .exit) ≡ now (self .entry)) × (now (value .exit) ≡ now (value .entry)) × (now (kinds .exit) ≡ now (kinds .entry))) ⌝ }
     {
         self.shot.collect(&mut self.register, value, kinds)
     }

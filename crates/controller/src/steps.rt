@@ -7,8 +7,7 @@ ghost use lib.ListN.{length};
 ghost use Rattle.std.specs.Results.{Cases};
 ghost use Rattle.std.specs.declared.result.Result.the-variants.{Ok, Err};
 ghost use Rattle.controller.specs.Faults.{ready-answer};
-ghost use Rattle.controller.specs.Loading.{LoadAnswer, claiming-nothing, is-made};
-ghost use Rattle.trees.specs.Failing.{first-failing};
+ghost use Rattle.controller.specs.Loading.{LoadAnswer, claiming-nothing, first-unmade, is-made};
 use crate::asking::ask;
 use crate::asking::let_go_unnamed;
 use crate::faults::ControllerFault;
@@ -86,7 +85,7 @@ impl Shot {
 
     /// Copies an accepted program's term, which claims nothing as it runs, and its root's type; answers the cell count.
     pub fn load<R: Register>(&mut self, register: &R, program: &Accepted) -> Result<usize, Refusal>
-        ensures answer { λ r. ⌜ LoadAnswer (now (self .entry) .len) (now (self .entry) .steps) (first-failing (is-made (R·Register .meaning (now (register .entry)) .makes)) (now (now (program .entry) .terms)) 0) r ⌝ }
+        ensures answer { λ r. ⌜ LoadAnswer (now (self .entry) .len) (now (self .entry) .steps) (first-unmade (R·Register .meaning (now (register .entry)) .makes) (now (now (program .entry) .terms))) r ⌝ }
         ensures refused { λ r. ⌜ Cases r (λ _. Unit {0}) (λ _. now (self .exit) ≡ now (self .entry)) ⌝ }
     {
         if self.len > 0 {
@@ -228,7 +227,9 @@ impl Shot {
         value: &mut [TermCell],
         kinds: &mut [TypeCell],
     ) -> Result<(usize, usize), Refusal>
-        ensures { λ r. ⌜ Cases r (λ _. now (self .exit) .len ≡ 0) (λ _. (now (self .exit) ≡ now (self .entry)) × (now (register .exit) ≡ now (register .entry)) × (now (value .exit) ≡ now (value .entry)) × (now (kinds .exit) ≡ now (kinds .entry))) ⌝ }
+        ensures { λ r. ⌜ Cases r
+            (λ _. now (self .exit) .len ≡ 0)
+            (λ _. (now (self .exit) ≡ now (self .entry)) × (now (register .exit) ≡ now (register .entry)) × (now (value .exit) ≡ now (value .entry)) × (now (kinds .exit) ≡ now (kinds .entry))) ⌝ }
     {
         if self.len == 0 {
             return Err(self.refusal(ControllerFault::NothingLoaded));

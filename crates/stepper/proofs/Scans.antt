@@ -15,7 +15,8 @@ spelt-all ws i cs l = at-drop-all (λ vs. spelt vs cs) ws i l
 pub spelt-past : (ws : List ℕ) (i : ℕ) (cs : List TermCell) (at w : ℕ) → i < length ws → length cs ≤ at → spelt (drop i ws) (drop at cs) ≡ false
 spelt-past ws i cs at w l p = at-drop-more (λ vs. spelt vs (drop at cs)) ws i w l ∙ at-drop-all (λ ds. spelt (getD ws i w ∷ drop (i + 1) ws) ds) cs at p
 
-pub spelt-step : (ws : List ℕ) (i : ℕ) (cs : List TermCell) (at w : ℕ) (d : TermCell) → i < length ws → at < length cs → w ≡ getD ws i w → spelt (drop i ws) (drop at cs) ≡ (eqb (getD cs at d .op) w && spelt (drop (i + 1) ws) (drop (at + 1) cs))
+pub spelt-step : (ws : List ℕ) (i : ℕ) (cs : List TermCell) (at w : ℕ) (d : TermCell) → i < length ws → at < length cs → w ≡ getD ws i w
+    → spelt (drop i ws) (drop at cs) ≡ (eqb (getD cs at d .op) w && spelt (drop (i + 1) ws) (drop (at + 1) cs))
 spelt-step ws i cs at w d l p e =
     at-drop-more (λ vs. spelt vs (drop at cs)) ws i w l
     ∙ at-drop-more (λ ds. spelt (getD ws i w ∷ drop (i + 1) ws) ds) cs at d p
