@@ -70,7 +70,12 @@ impl Maker {
             let gate = u16::try_from((start % 8 + i) % 8).unwrap_or(0);
             if same(kind, &operands(self.heap, gate)?) {
                 self.emit(random, 'a', 0, kind)?;
-                let function = arrow(self.heap, 0, kind.marked(self.heap, 0)?, kind.marked(self.heap, 0)?)?;
+                let function = arrow(
+                    self.heap,
+                    0,
+                    kind.marked(self.heap, 0)?,
+                    kind.marked(self.heap, 0)?,
+                )?;
                 self.emit(random, 'g', gate, &function)?;
                 self.due(kind, fuel)?;
                 return Ok(true);
