@@ -1,18 +1,18 @@
 //! The verdict on a term, in tree order.
 
 ghost use mathlib.Core.Path.{_≡_};
-ghost use Prim.Native.Nat.{_<_, _≤_};
+ghost use Prim.Native.Nat.{_+_, _<_, _≤_};
 ghost use lib.ListN.{length};
 ghost use Rattle.std.specs.Results.{Cases};
 ghost use Rattle.std.specs.declared.result.Result.the-variants.{Ok, Err};
-ghost use Rattle.checker.specs.Ending.{Ends-from};
+ghost use Rattle.checker.specs.Judging.{Judged, binder-count};
 ghost use Rattle.checker.specs.Scoping.{depth-tested};
 use crate::faults::CheckFault;
 use crate::leaving::apart;
 use crate::leaving::uncaptured;
 use crate::program::Program;
+use crate::relating::Marked;
 use crate::relating::plain;
-use crate::rules::Parts;
 use crate::rules::claims_agree;
 use crate::rules::take_apart;
 use crate::scope::Entered;
@@ -37,9 +37,29 @@ fn enter(program: &Program, at: usize, cell: TermCell, scope: &Scope) -> Result<
     Ok(())
 }
 
+// Judges the term at a place under one binder more, or two, which are left again on every way out.
+fn judge_under(
+    program: &Program,
+    at: usize,
+    outer: Marked,
+    inner: Option<Marked>,
+    scope: &mut Scope,
+) -> Result<Used, CheckFault>
+    requires { ⌜ Judged (now program) ⌝ ∗ ⌜ now scope .depth + binder-count inner ≤ 32 ⌝ }
+    ensures { λ _. ⌜ now (scope .exit) .depth ≡ now (scope .entry) .depth ⌝ }
+{
+    let before = scope.depth;
+    let entered = Entered { scope, before };
+    bind(&mut *entered.scope, outer);
+    if let Some(binder) = inner {
+        bind(&mut *entered.scope, binder);
+    }
+    judge(program, at, &mut *entered.scope)
+}
+
 /// The binders that the term at a place uses, or its first fault: of a cell, then of its parts in order, then on leaving it.
 pub fn judge(program: &Program, at: usize, scope: &mut Scope) -> Result<Used, CheckFault>
-    requires { ⌜ length (now (now program .terms)) ≤ 512 ⌝ ∗ ⌜ Ends-from 0 (length (now (now program .terms))) (now program .ends) ⌝ ∗ ⌜ now scope .depth ≤ 32 ⌝ }
+    requires { ⌜ Judged (now program) ⌝ ∗ ⌜ now scope .depth ≤ 32 ⌝ }
     ensures { λ _. ⌜ now (scope .exit) .depth ≡ now (scope .entry) .depth ⌝ }
 {
     if at >= program.terms.len() {
@@ -53,15 +73,7 @@ pub fn judge(program: &Program, at: usize, scope: &mut Scope) -> Result<Used, Ch
         'v' => Ok(only(scope.depth - 1 - cell.argument as usize)),
         'l' => {
             let arrow = take_apart(types, cell.claim as usize);
-            let used = {
-                let before = scope.depth;
-                let entered = Entered {
-                    scope: &mut *scope,
-                    before,
-                };
-                bind(&mut *entered.scope, plain(arrow.first));
-                judge(program, at + 1, &mut *entered.scope)?
-            };
+            let used = judge_under(program, at + 1, plain(arrow.first), None, scope)?;
             uncaptured(types, scope, used, arrow.marks, at)
         }
         'a' | 'p' => {
@@ -72,16 +84,13 @@ pub fn judge(program: &Program, at: usize, scope: &mut Scope) -> Result<Used, Ch
         'd' => {
             let pair = take_apart(types, program.claim(at + 1));
             let given = judge(program, at + 1, scope)?;
-            let body = {
-                let before = scope.depth;
-                let entered = Entered {
-                    scope: &mut *scope,
-                    before,
-                };
-                bind(&mut *entered.scope, pair.first_marked());
-                bind(&mut *entered.scope, pair.second_marked());
-                judge(program, second, &mut *entered.scope)?
-            };
+            let body = judge_under(
+                program,
+                second,
+                pair.first_marked(),
+                Some(pair.second_marked()),
+                scope,
+            )?;
             apart(types, scope, &given, &body, at)
         }
         'i' => {

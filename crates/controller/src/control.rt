@@ -3,6 +3,8 @@
 ghost use mathlib.Core.Path.{_≡_};
 ghost use Prim.Native.Nat.{_≤_};
 ghost use Rattle.std.specs.Results.{Cases};
+ghost use Rattle.controller.specs.Loading.{LoadAnswer, is-made};
+ghost use Rattle.trees.specs.Failing.{first-failing};
 use crate::faults::Refusal;
 use crate::faults::Stop;
 use crate::shot::Shot;
@@ -32,7 +34,8 @@ impl<R: Register> Controller<R> {
 
     /// Loads an accepted program, and answers the cell count of its term.
     pub fn load(&mut self, program: &Accepted) -> Result<usize, Refusal>
-        ensures { λ r. ⌜ Cases r (λ _. Unit {0}) (λ _. now (self .exit) ≡ now (self .entry)) ⌝ }
+        ensures answer { λ r. ⌜ LoadAnswer (now (self .entry) .shot .len) (now (self .entry) .shot .steps) (first-failing (is-made (R·Register .meaning (now (self .entry) .register) .makes)) (now (now (program .entry) .terms)) 0) r ⌝ }
+        ensures refused { λ r. ⌜ Cases r (λ _. Unit {0}) (λ _. now (self .exit) ≡ now (self .entry)) ⌝ }
     {
         self.shot.load(&self.register, program)
     }

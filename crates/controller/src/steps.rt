@@ -7,7 +7,8 @@ ghost use lib.ListN.{length};
 ghost use Rattle.std.specs.Results.{Cases};
 ghost use Rattle.std.specs.declared.result.Result.the-variants.{Ok, Err};
 ghost use Rattle.controller.specs.Faults.{ready-answer};
-ghost use Rattle.controller.specs.Loading.{claiming-nothing};
+ghost use Rattle.controller.specs.Loading.{LoadAnswer, claiming-nothing, is-made};
+ghost use Rattle.trees.specs.Failing.{first-failing};
 use crate::asking::ask;
 use crate::asking::let_go_unnamed;
 use crate::faults::ControllerFault;
@@ -28,27 +29,26 @@ use stepper::Rule;
 use stepper::find;
 use stepper::named;
 use stepper::next;
+use trees::Test;
 use trees::copy;
+use trees::first_failing;
 
-// Whether the register makes the gate that the cell names, if it names one.
-fn is_made<R: Register>(register: &R, cell: TermCell) -> bool {
-    if cell.op != 'g' {
-        return true;
-    }
-    match Gate::from_number(cell.argument) {
-        Some(gate) => register.makes(gate),
-        None => false,
-    }
-}
+// The test of a cell that names no gate, or one that the register makes.
+#[derive(Drop)]
+struct Made<'a, R: Register>(&'a R);
 
-// The first cell that names a gate which the register does not make.
-fn first_unmade<R: Register>(register: &R, terms: &[TermCell]) -> Option<usize> {
-    for at in 0..terms.len() {
-        if !is_made(register, terms[at]) {
-            return Some(at);
+impl<'a, R: Register> Test<TermCell> for Made<'a, R> as MadeTest {
+    ghost holds = { λ s. is-made (R·Register .meaning (s .0 .now) .makes) };
+
+    fn passes(&self, cell: TermCell) -> bool {
+        if cell.op != 'g' {
+            return true;
+        }
+        match Gate::from_number(cell.argument) {
+            Some(gate) => self.0.makes(gate),
+            None => false,
         }
     }
-    None
 }
 
 // Has every cell claim nothing.
@@ -86,13 +86,14 @@ impl Shot {
 
     /// Copies an accepted program's term, which claims nothing as it runs, and its root's type; answers the cell count.
     pub fn load<R: Register>(&mut self, register: &R, program: &Accepted) -> Result<usize, Refusal>
-        ensures { λ r. ⌜ Cases r (λ _. Unit {0}) (λ _. now (self .exit) ≡ now (self .entry)) ⌝ }
+        ensures answer { λ r. ⌜ LoadAnswer (now (self .entry) .len) (now (self .entry) .steps) (first-failing (is-made (R·Register .meaning (now (register .entry)) .makes)) (now (now (program .entry) .terms)) 0) r ⌝ }
+        ensures refused { λ r. ⌜ Cases r (λ _. Unit {0}) (λ _. now (self .exit) ≡ now (self .entry)) ⌝ }
     {
         if self.len > 0 {
             return Err(self.refusal(ControllerFault::AlreadyLoaded));
         }
         let terms = program.terms();
-        if let Some(cell) = first_unmade(register, terms) {
+        if let Some(cell) = first_failing(&Made(register), terms) {
             return Err(Refusal {
                 fault: ControllerFault::GateNotMade,
                 place: cell as u64,

@@ -1,5 +1,10 @@
 //! Plays a shot: reads, checks and loads a program, runs it on a tape and collects its value.
 
+ghost use mathlib.Core.Path.{_≡_};
+ghost use Prim.Native.Nat.{_≤_};
+ghost use lib.ListN.{length};
+ghost use Rattle.std.specs.Of.Vec.{vec-len};
+ghost use Rattle.std.specs.Vec.{made};
 use calculus::MOST_RUNNING_CELLS;
 use calculus::MOST_TERM_CELLS;
 use calculus::MOST_TYPE_CELLS;
@@ -8,9 +13,11 @@ use calculus::TypeCell;
 use checker::Accepted;
 use checker::check;
 use controller::Controller;
+use controller::Refusal;
 use controller::Stop;
 use reader::read;
 use registers::Entry;
+use registers::Register;
 use registers::Tape;
 use registers::TapeRegister;
 use std::alloc::AllocError;
@@ -43,59 +50,80 @@ pub enum Shot {
     },
 }
 
+const BLANK_TERM: TermCell = TermCell {
+    op: '\0',
+    argument: 0,
+    claim: 0,
+};
+
+const BLANK_TYPE: TypeCell = TypeCell { kind: '\0' };
+
 // The outcomes of the tape: pulse k answers k mod 2.
-fn outcomes() -> [u8; PULSES] {
-    let mut outcomes = [0; PULSES];
+fn outcomes(heap: Global) -> Result<Vec<u8>, AllocError>
+    ensures { λ r. ⌜ made r (λ v. vec-len v ≡ 64) ⌝ }
+{
+    let mut outcomes = Vec::new(heap);
     for k in 0..PULSES {
-        outcomes[k] = (k % 2) as u8;
+        outcomes.push((k % 2) as u8)?;
     }
-    outcomes
+    Ok(outcomes)
 }
 
 // The entries of a journal up to the first that no pulse filled.
-fn pulses_made(heap: Global, journal: &[Entry]) -> Result<Vec<Entry>, AllocError> {
-    let mut made = Vec::new(heap);
+fn pulses_made(heap: Global, journal: &[Entry]) -> Result<Vec<Entry>, AllocError>
+    ensures { λ r. ⌜ made r (λ v. vec-len v ≤ length (now (journal .entry))) ⌝ }
+{
+    let mut entries = Vec::new(heap);
     for entry in journal {
         if let Entry::Empty = entry {
             break;
         }
-        made.push(*entry)?;
+        entries.push(*entry)?;
     }
-    Ok(made)
+    Ok(entries)
+}
+
+// A value and its type.
+type Collected = (Vec<TermCell>, Vec<TypeCell>);
+
+// The value with its type, or no cells where the run stopped before one.
+fn collected<R: Register>(
+    heap: Global,
+    controller: &mut Controller<R>,
+    work: &mut [TermCell],
+) -> Result<Collected, AllocError> {
+    let mut kinds = vec![in heap; BLANK_TYPE; MOST_TYPE_CELLS]?;
+    match controller.collect(work, &mut kinds) {
+        Ok((cells, kind_cells)) => Ok((
+            work.iter().take(cells).copied().collect(heap)?,
+            kinds.iter().take(kind_cells).copied().collect(heap)?,
+        )),
+        Err(_) => Ok((Vec::new(heap), Vec::new(heap))),
+    }
+}
+
+fn refused(refusal: Refusal) -> Shot {
+    Shot::Refused {
+        number: refusal.fault.number(),
+        place: refusal.place,
+    }
 }
 
 // Runs an accepted program on a new tape.
 fn run_accepted(heap: Global, program: &Accepted) -> Result<Shot, AllocError> {
-    let outcomes = outcomes();
-    let mut journal = [Entry::Empty; PULSES];
-    let mut work = [TermCell {
-        op: '\0',
-        argument: 0,
-        claim: 0,
-    }; MOST_RUNNING_CELLS];
-    let mut kinds = [TypeCell { kind: '\0' }; MOST_TYPE_CELLS];
+    let outcomes = outcomes(heap)?;
+    let mut journal = vec![in heap; Entry::Empty; PULSES]?;
+    let mut work = vec![in heap; BLANK_TERM; MOST_RUNNING_CELLS]?;
     let mut controller = Controller::new(Tape::new(CAPACITY, &outcomes, &mut journal));
     if let Err(refusal) = controller.load(program) {
-        return Ok(Shot::Refused {
-            number: refusal.fault.number(),
-            place: refusal.place,
-        });
+        return Ok(refused(refusal));
     }
     let (steps, stop) = match controller.run(BUDGET, &mut work) {
         Ok(ran) => ran,
-        Err(refusal) => return Ok(Shot::Refused {
-            number: refusal.fault.number(),
-            place: refusal.place,
-        }),
+        Err(refusal) => return Ok(refused(refusal)),
     };
     let journal = pulses_made(heap, controller.register().journal())?;
-    let (value, kinds) = match controller.collect(&mut work, &mut kinds) {
-        Ok((cells, kind_cells)) => (
-            work.iter().take(cells).copied().collect(heap)?,
-            kinds.iter().take(kind_cells).copied().collect(heap)?,
-        ),
-        Err(_) => (Vec::new(heap), Vec::new(heap)),
-    };
+    let (value, kinds) = collected(heap, &mut controller, &mut work)?;
     Ok(Shot::Ran {
         steps,
         stop,
@@ -107,12 +135,8 @@ fn run_accepted(heap: Global, program: &Accepted) -> Result<Shot, AllocError> {
 
 /// Plays the shot of a stored program's text.
 pub fn play(heap: Global, text: &[u8]) -> Result<Shot, AllocError> {
-    let mut types = [TypeCell { kind: '\0' }; MOST_TYPE_CELLS];
-    let mut terms = [TermCell {
-        op: '\0',
-        argument: 0,
-        claim: 0,
-    }; MOST_TERM_CELLS];
+    let mut types = vec![in heap; BLANK_TYPE; MOST_TYPE_CELLS]?;
+    let mut terms = vec![in heap; BLANK_TERM; MOST_TERM_CELLS]?;
     let (type_count, term_count) = match read(text, &mut types, &mut terms) {
         Ok(counts) => counts,
         Err(fault) => return Ok(Shot::Refused {

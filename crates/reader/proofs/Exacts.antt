@@ -23,7 +23,7 @@ use Rattle.reader.specs.Cells.{is-kind, is-op}
 use Rattle.reader.specs.Lines.{Said, header, kind, term, counts, other, header-line, said}
 use Rattle.reader.specs.Pieces.{pieces}
 use Rattle.reader.specs.Reading.{Outcome, left, fault, start, line-read, after-line, reads, reading}
-use Rattle.reader.specs.Stored.{kind-line, op-line, end-line, cell-lines, written, Kind-known, Op-known, Fitting, fronted, holding, Begins, Done, Exact}
+use Rattle.reader.specs.Stored.{kind-line, op-line, end-line, cell-lines, written, Kind-known, Op-known, Fitting, fronted, holding, Begins, Done, Bounded, Exact}
 use Rattle.reader.proofs.Back.{kinds-back}
 use Rattle.reader.proofs.Came.{place, Within, Came, Verdict, came}
 use Rattle.reader.proofs.Decimals.{number-is, decimal-number, decimal-lacks}
@@ -204,6 +204,15 @@ done text ts ms (Err f) us ns e =
       (λ ks os fit is. no-ok (ap (λ (o : Outcome). o .answer) (e ∙ ap (λ t. reading t ts ms) is ∙ read-back ks os ts ms fit))),
       (ks, os, lines, ap (λ (o : Outcome). o .types) same, ap (λ (o : Outcome). o .terms) same),
     )
+
+pub bounded : (text : List ℕ) (ts : List TypeCell) (ms : List TermCell) (r : Result (ℕ × ℕ) ReadFault) (us : List TypeCell) (ns : List TermCell)
+    → left r us ns ≡ reading text ts ms → Bounded r ts ms
+bounded text ts ms (Ok n) us ns e =
+    let (ks, os, is, fit, counted, u, v) = done text ts ms (Ok n) us ns e in
+    let k = ap (λ (m : ℕ × ℕ). m .0) counted in
+    let o = ap (λ (m : ℕ × ℕ). m .1) counted in
+    omega (arith, k, o, fit .kinds-within, fit .ops-within)
+bounded text ts ms (Err f) us ns e = tt
 
 pub exact : Exact
 exact = record {

@@ -20,6 +20,7 @@ use Rattle.reader.specs.Numbers.{number-in}
 abbrev pub is-kind : ℕ → Bool
 is-kind k = isSome (kind-parts-of k)
 
+-- an op letter, `q` among them
 abbrev pub is-op : ℕ → Bool
 is-op o = isSome (shape-of (letter o))
 
@@ -29,6 +30,7 @@ letter-in [] = None
 letter-in (b ∷ []) = Some b
 letter-in (b ∷ c ∷ bs) = None
 
+-- the cell of a letter that is a kind
 abbrev pub kind-with : Option ℕ → Result TypeCell ReadReason
 kind-with None = Err Line
 kind-with (Some k) = cond (is-kind k) (Ok (record { kind = k })) (Err Line)
@@ -37,6 +39,7 @@ kind-with (Some k) = cond (is-kind k) (Ok (record { kind = k })) (Err Line)
 abbrev pub kind-cell : List ℕ → Result TypeCell ReadReason
 kind-cell f = kind-with (letter-in f)
 
+-- two numbers, where both fields are some
 abbrev pub both : Option ℕ → Option ℕ → Result (ℕ × ℕ) ReadReason
 both None n = Err Number
 both (Some m) None = Err Number
@@ -46,10 +49,12 @@ both (Some m) (Some n) = Ok (m, n)
 abbrev pub two-numbers : List ℕ → List ℕ → Result (ℕ × ℕ) ReadReason
 two-numbers f g = both (number-in f) (number-in g)
 
+-- the cell of an op with its numbers
 abbrev pub op-at : ℕ → Result (ℕ × ℕ) ReadReason → Result TermCell ReadReason
 op-at o (Err e) = Err e
 op-at o (Ok n) = Ok (record { op = o; argument = n .0; claim = n .1 })
 
+-- the same of a letter that is an op
 abbrev pub op-with : Option ℕ → Result (ℕ × ℕ) ReadReason → Result TermCell ReadReason
 op-with None n = Err Line
 op-with (Some o) n = cond (is-op o) (op-at o n) (Err Line)

@@ -4,4 +4,5 @@ pub mod Lines
 pub mod Numbers
 pub mod Pieces
 pub mod Reading
+pub mod Samples
 pub mod Stored

@@ -13,6 +13,7 @@ abbrev pub value-from : ℕ → List ℕ → ℕ
 value-from acc [] = acc
 value-from acc (d ∷ ds) = value-from (acc * 10 + (d - 48)) ds
 
+-- that value, if there are only digits and it is at most 65,535
 abbrev pub value-within : ℕ → List ℕ → Option ℕ
 value-within acc ds = cond (allDigits ds && leb (value-from acc ds) 65535) (Some (value-from acc ds)) None
 

@@ -23,12 +23,15 @@ pub record Left (X : Type 0) : Type 0 where
   pub types : List TypeCell
   pub terms : List TermCell
 
+-- the same, from its parts
 abbrev pub left : {X : Type 0} → X → List TypeCell → List TermCell → Left X
 left x ts ms = record { answer = x; types = ts; terms = ms }
 
+-- a read begins in the header section, with no cell
 abbrev pub start : Place
 start = record { section = section.Header; kinds = 0; ops = 0; agrees = false }
 
+-- the place, once a kind cell has its own
 abbrev pub to-kinds : Place → Result ℕ ReadReason → Result Place ReadReason
 to-kinds p (Err e) = Err e
 to-kinds p (Ok n) = Ok (record { section = p .section; kinds = n; ops = p .ops; agrees = p .agrees })
@@ -38,6 +41,7 @@ abbrev pub with-kind : Place → Result TypeCell ReadReason → List TypeCell �
 with-kind p (Err e) ts ms = left (Err e) ts ms
 with-kind p (Ok c) ts ms = left (to-kinds p (next-place 256 ts (p .kinds))) (with-cell 256 ts (p .kinds) c) ms
 
+-- the place, once an op cell has its own
 abbrev pub to-ops : Place → Result ℕ ReadReason → Result Place ReadReason
 to-ops p (Err e) = Err e
 to-ops p (Ok n) = Ok (record { section = p .section; kinds = p .kinds; ops = n; agrees = p .agrees })
@@ -51,6 +55,7 @@ with-op p (Ok c) ts ms = left (to-ops p (next-place 512 ms (p .ops))) ts (with-c
 abbrev pub agreeing : ℕ × ℕ → Place → Bool
 agreeing n p = eqb (n .0) (p .kinds) && eqb (n .1) (p .ops)
 
+-- the place after an end line
 abbrev pub with-counts : Place → Result (ℕ × ℕ) ReadReason → Result Place ReadReason
 with-counts p (Err e) = Err e
 with-counts p (Ok n) = Ok (record { section = p .section; kinds = p .kinds; ops = p .ops; agrees = agreeing n p })
@@ -63,6 +68,7 @@ allowed-line p (term f g h) ts ms = with-op p (op-cell f g h) ts ms
 allowed-line p (counts f g) ts ms = left (with-counts p (two-numbers f g)) ts ms
 allowed-line p other ts ms = left (Ok p) ts ms
 
+-- a line in a section that allows it, or not
 abbrev pub line-in : Place → Result Section ReadReason → Said → List TypeCell → List TermCell → Left (Result Place ReadReason)
 line-in p (Err e) s ts ms = left (Err e) ts ms
 line-in p (Ok sec) s ts ms = allowed-line (record { section = sec; kinds = p .kinds; ops = p .ops; agrees = p .agrees }) s ts ms
@@ -71,26 +77,31 @@ line-in p (Ok sec) s ts ms = allowed-line (record { section = sec; kinds = p .ki
 abbrev pub line-read : Place → Said → List TypeCell → List TermCell → Left (Result Place ReadReason)
 line-read p s ts ms = line-in p (section-after (p .section) s) s ts ms
 
+-- a refusal at a line
 abbrev pub fault : {X : Type 0} → ReadReason → ℕ → Result X ReadFault
 fault e line = Err (record { reason = e; line = line })
 
--- the end of the text, after its last byte 10
+-- after the end line: nothing more, and the counts of the cells
 abbrev closed-by : List ℕ → ℕ → Place → Result (ℕ × ℕ) ReadFault
 closed-by [] due p = cond (p .agrees) (Ok (p .kinds, p .ops)) (fault reason.End (due - 1))
 closed-by (b ∷ bs) due p = fault reason.Line due
 
+-- the same, by the section: only after the end line may the text end
 abbrev closed-in : Section → List ℕ → ℕ → Place → Result (ℕ × ℕ) ReadFault
 closed-in section.Header rest due p = fault reason.End due
 closed-in section.Types rest due p = fault reason.End due
 closed-in section.Terms rest due p = fault reason.End due
 closed-in section.End rest due p = closed-by rest due p
 
+-- the verdict on what stands after the last byte 10, where this line would be due
 abbrev pub closed : List ℕ → ℕ → Place → Result (ℕ × ℕ) ReadFault
 closed rest due p = closed-in (p .section) rest due p
 
+-- what a read leaves
 abbrev pub Outcome : Type 0
 Outcome = Left (Result (ℕ × ℕ) ReadFault)
 
+-- the end of a read at a fault, or more of it
 abbrev pub by-answer : ℕ → Result Place ReadReason → List TypeCell → List TermCell → (Place → List TypeCell → List TermCell → Outcome) → Outcome
 by-answer due (Err e) ts ms more = left (fault e due) ts ms
 by-answer due (Ok p) ts ms more = more p ts ms

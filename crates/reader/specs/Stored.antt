@@ -44,9 +44,11 @@ text-of ls = joined (λ l. l ++ (10 ∷ [])) ls
 abbrev pub written : List TypeCell → List TermCell → List ℕ
 written ks os = text-of (cell-lines ks os ++ (end-line (length ks) (length os) ∷ []))
 
+-- the letter is a kind
 abbrev pub Kind-known : TypeCell → Type 0
 Kind-known c = is-kind (c .kind) ≡ true
 
+-- the letter is an op, and the numbers fit
 abbrev pub Op-known : TermCell → Type 0
 Op-known c = (is-op (c .op) ≡ true) × (c .argument ≤ 65535) × (c .claim ≤ 65535)
 
@@ -82,6 +84,11 @@ Done text ts ms (Err f) us ns =
     ((ks : List TypeCell) (os : List TermCell) → Fitting ks os ts ms → text ≡ written ks os → ⊥)
     × ((ks : List TypeCell) × (os : List TermCell) × Begins (take (f .line - 1) (pieces 10 text)) ks os
     × (us ≡ fronted ks ts) × (ns ≡ fronted os ms))
+
+-- the counts of an accepted read are within the limits and the tables
+abbrev pub Bounded : Result (ℕ × ℕ) ReadFault → List TypeCell → List TermCell → Type 0
+Bounded (Ok n) ts ms = (n .0 ≤ 256) × (n .0 ≤ length ts) × (n .1 ≤ 512) × (n .1 ≤ length ms)
+Bounded (Err f) ts ms = Unit {0}
 
 -- What holds of every read.
 pub record Exact : Type 0 where

@@ -31,6 +31,13 @@ impl ReadReason {
             ReadReason::End => 15,
         }
     }
+
+    /// The fault for this reason at a line.
+    pub fn at(self, line: usize) -> ReadFault
+        ensures { λ r. ⌜ r ≡ record { reason = self; line = line } ⌝ }
+    {
+        ReadFault { reason: self, line }
+    }
 }
 
 /// A refused read: the reason, and the number of the line at fault, from 1 on.

@@ -18,4 +18,5 @@ pub use faults::ReadReasonDebug;
 pub use faults::ReadReasonEq;
 pub use faults::ReadReasonPartialEq;
 pub use promises::reading_is_exact;
+pub use promises::samples_are_judged;
 pub use reading::read;

@@ -4,7 +4,7 @@ ghost use mathlib.Core.Path.{_≡_};
 ghost use Prim.Native.Nat.{_≤_};
 ghost use Rattle.reader.specs.Lines.{said};
 ghost use Rattle.reader.specs.Reading.{agreeing, line-read, closed, reading};
-ghost use Rattle.reader.specs.Stored.{Done};
+ghost use Rattle.reader.specs.Stored.{Done, Bounded};
 use crate::cells::numbers;
 use crate::cells::put;
 use crate::cells::term_cell;
@@ -53,18 +53,14 @@ fn take_line(
     let section = next_section(place.section, record)?;
     let mut next = Place { section, ..place };
     match record {
-        Record::Kind(kind) => next.kinds = put(
-            types,
-            place.kinds,
-            MOST_TYPE_CELLS,
-            type_cell(kind)?,
-        )?,
-        Record::Term(op, argument, claim) => next.ops = put(
-            terms,
-            place.ops,
-            MOST_TERM_CELLS,
-            term_cell(op, argument, claim)?,
-        )?,
+        Record::Kind(kind) => {
+            let cell = type_cell(kind)?;
+            next.kinds = put(types, place.kinds, MOST_TYPE_CELLS, cell)?;
+        }
+        Record::Term(op, argument, claim) => {
+            let cell = term_cell(op, argument, claim)?;
+            next.ops = put(terms, place.ops, MOST_TERM_CELLS, cell)?;
+        }
         Record::Counts(kinds, ops) => next.agrees = counts_agree(numbers(kinds, ops)?, place),
         Record::Header | Record::Other => {}
     }
@@ -77,22 +73,13 @@ fn close(rest: &[u8], due: usize, place: Place) -> Result<(usize, usize), ReadFa
     ensures { λ r. ⌜ r ≡ closed (now (rest .entry)) due place ⌝ }
 {
     if place.section != Section::End {
-        return Err(ReadFault {
-            reason: ReadReason::End,
-            line: due,
-        });
+        return Err(ReadReason::End.at(due));
     }
     if !rest.is_empty() {
-        return Err(ReadFault {
-            reason: ReadReason::Line,
-            line: due,
-        });
+        return Err(ReadReason::Line.at(due));
     }
     if !place.agrees {
-        return Err(ReadFault {
-            reason: ReadReason::End,
-            line: due - 1,
-        });
+        return Err(ReadReason::End.at(due - 1));
     }
     Ok((place.kinds, place.ops))
 }
@@ -108,6 +95,7 @@ pub fn read(
     ensures types { λ _. ⌜ now (types .exit) ≡ reading (now (text .entry)) (now (types .entry)) (now (terms .entry)) .types ⌝ }
     ensures terms { λ _. ⌜ now (terms .exit) ≡ reading (now (text .entry)) (now (types .entry)) (now (terms .entry)) .terms ⌝ }
     ensures stored { λ r. ⌜ Done (now (text .entry)) (now (types .entry)) (now (terms .entry)) r (now (types .exit)) (now (terms .exit)) ⌝ }
+    ensures within { λ r. ⌜ Bounded r (now (types .entry)) (now (terms .entry)) ⌝ }
 {
     let mut place = Place {
         section: Section::Header,
@@ -120,7 +108,7 @@ pub fn read(
     while let Some((line, after)) = parted(rest, b'\n') {
         match take_line(place, line, types, terms) {
             Ok(next) => place = next,
-            Err(reason) => return Err(ReadFault { reason, line: due }),
+            Err(reason) => return Err(reason.at(due)),
         }
         due += 1;
         rest = after;

@@ -2,17 +2,16 @@
 use mathlib.Core.Path.{_≡_, refl, sym, ap, _∙_}
 use mathlib.Core.Bool.{Bool, true, false}
 use mathlib.Core.List.{List, [], _∷_}
-use mathlib.Core.Logic.{_⊎_, inl, inr, ⊎-elim}
+use mathlib.Core.Logic.{_⊎_, ⊎-elim}
 use Prim.Native.Nat.{ℕ, zero, suc, _+_, _-_, _<_, _≤_}
 use native.Mathlib.Omega.{arith}
 use lib.Dec.{ltb}
-use lib.ListN.{length, getD, drop}
-use Rattle.std.proofs.shelf.Lists.{getD-drop}
-use Rattle.std.proofs.shelf.Tests.{cond-both, ltb-true, ltb-false}
-use Rattle.registers.specs.Meaning.{counted}
-use Rattle.registers.specs.Handles.{first-free, free-from, next-free}
-use Rattle.registers.specs.Free.{next-at, next-below}
-use Rattle.registers.specs.Next.{Passed, Is-next, Next-is-found}
+use lib.ListN.{length, getD, take, drop}
+use Rattle.std.proofs.shelf.Lists.{getD-drop, getD-take}
+use Rattle.std.proofs.shelf.Tests.{cond-both, ltb-false}
+use Rattle.registers.specs.Handles.{first-free, free-from, next-free, places, room}
+use Rattle.registers.specs.Free.{places-wide, below-long, handle-below, handle-not-live}
+use Rattle.registers.specs.Next.{Passed, Next-is-found}
 
 before-free : (l : List Bool) (k : ℕ) → k < first-free l → getD l k false ≡ true
 before-free [] k h = absurd (omega arith)
@@ -36,4 +35,12 @@ passed-before l start k inside =
     (λ round. ⊎-elim (λ from. before-from l start k from (omega arith)) (λ under. before-from l 0 k (omega arith) under) (round .1)) p)
 
 pub next-is-found : Next-is-found
-next-is-found l start room = record { below = next-below l start room; not-live = next-at l start; passed = passed-before l start }
+next-is-found s h =
+    let n = room s in
+    let l = places (s .live) in
+    let long = below-long n l (places-wide (s .live)) (omega arith) in
+    record {
+      below = handle-below s h;
+      not-live = handle-not-live s h;
+      passed = λ k inside p. sym (getD-take n l k false inside) ∙ passed-before (take n l) (s .next) k (omega arith) p;
+    }

@@ -1,10 +1,9 @@
 -- A handle that goes live adds one to the live count, and one that is let go adds none.
-use mathlib.Core.Path.{_≡_, refl, sym, ap, _∙_}
 use mathlib.Core.Bool.{Bool, true, false}
 use mathlib.Core.List.{List, [], _∷_}
-use Prim.Native.Nat.{ℕ, zero, suc, _<_, _≤_}
+use Prim.Native.Nat.{ℕ, zero, suc, _≤_}
 use native.Mathlib.Omega.{arith}
-use lib.ListN.{length, getD, set}
+use lib.ListN.{set}
 use Rattle.registers.specs.declared.fault.RegisterReason.{RegisterReason}
 use Rattle.registers.specs.Meaning.{Meaning, Changes, counted}
 use Rattle.registers.specs.Sheet.{Call, to-prepare, to-gate, to-read, to-let-go, to-clear}

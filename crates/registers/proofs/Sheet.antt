@@ -1,8 +1,8 @@
 -- The answers of a register go through the rows of the sheet in the order of their numbers.
 use mathlib.Core.Path.{_≡_, refl, sym, ap, _∙_}
-use mathlib.Core.Bool.{Bool, true, false, not, _&&_, _||_}
+use mathlib.Core.Bool.{Bool, true, false, not}
 use mathlib.Core.List.{List, [], _∷_}
-use mathlib.Core.Logic.{_⊎_, inl, inr, ⊎-elim}
+use mathlib.Core.Logic.{_⊎_, ⊎-elim}
 use Prim.Native.Nat.{ℕ, zero, suc, _<_, _≤_}
 use native.Mathlib.Omega.{arith}
 use lib.Dec.{eqb, leb}
@@ -16,9 +16,9 @@ use Rattle.registers.specs.declared.fault.RegisterReason.the-variants.{NoPulse
 use Rattle.registers.specs.declared.fault.RegisterFault.{RegisterFault}
 use Rattle.registers.specs.Meaning.{Meaning, Live, counted}
 use Rattle.registers.specs.Answers.{number-of, prepare-answer, gate-answer, read-answer, let-go-answer, all-live, among, distinct}
-use Rattle.registers.specs.Sheet.{Call, to-prepare, to-gate, to-read, to-let-go, to-clear, Among, Twice, Holds, Exact, reason-of, Refusals-are-exact}
+use Rattle.registers.specs.Sheet.{to-prepare, to-gate, to-read, to-let-go, to-clear, Among, Twice, Holds, Exact, reason-of, Refusals-are-exact}
 
-not-all-live : (live : List Bool) (on : List ℕ) → all-live live on ≡ false → (h : ℕ) × Among h on × (getD live h false ≡ false)
+pub not-all-live : (live : List Bool) (on : List ℕ) → all-live live on ≡ false → (h : ℕ) × Among h on × (getD live h false ≡ false)
 not-all-live live [] e = absurd (false≢true (sym e))
 not-all-live live (h ∷ hs) e =
     ⊎-elim
@@ -26,12 +26,12 @@ not-all-live live (h ∷ hs) e =
     (λ rest. let r = not-all-live live hs rest in (r .0, (suc (r .1 .0), (let b = r .1 .1 in omega arith), r .1 .2), r .2))
     (and-cases (getD live h false) (all-live live hs) e)
 
-each-live : (live : List Bool) (on : List ℕ) (h i : ℕ) → all-live live on ≡ true → i < length on → getD on i 0 ≡ h → getD live h false ≡ true
+pub each-live : (live : List Bool) (on : List ℕ) (h i : ℕ) → all-live live on ≡ true → i < length on → getD on i 0 ≡ h → getD live h false ≡ true
 each-live live [] h i e b f = absurd (omega arith)
 each-live live (k ∷ ks) h zero e b f = ap (λ x. getD live x false) (sym f) ∙ and-parts (getD live k false) (all-live live ks) e .0
 each-live live (k ∷ ks) h (suc i) e b f = each-live live ks h i (and-parts (getD live k false) (all-live live ks) e .1) (omega arith) f
 
-is-among : (h : ℕ) (on : List ℕ) → among h on ≡ true → Among h on
+pub is-among : (h : ℕ) (on : List ℕ) → among h on ≡ true → Among h on
 is-among h [] e = absurd (false≢true e)
 is-among h (k ∷ ks) e =
     ⊎-elim
@@ -39,12 +39,12 @@ is-among h (k ∷ ks) e =
     (λ rest. let r = is-among h ks rest in (suc (r .0), (let b = r .1 in omega arith), r .2))
     (or-cases (eqb h k) (among h ks) e)
 
-among-from : (h : ℕ) (on : List ℕ) (i : ℕ) → i < length on → getD on i 0 ≡ h → among h on ≡ true
+pub among-from : (h : ℕ) (on : List ℕ) (i : ℕ) → i < length on → getD on i 0 ≡ h → among h on ≡ true
 among-from h [] i b e = absurd (omega arith)
 among-from h (k ∷ ks) zero b e = rw (eq-eqb h k (sym e)) refl
 among-from h (k ∷ ks) (suc i) b e = or-right (eqb h k) (among h ks) (among-from h ks i (omega arith) e)
 
-is-twice : (on : List ℕ) → distinct on ≡ false → Twice on
+pub is-twice : (on : List ℕ) → distinct on ≡ false → Twice on
 is-twice [] e = absurd (false≢true (sym e))
 is-twice (h ∷ hs) e =
     ⊎-elim
@@ -52,7 +52,7 @@ is-twice (h ∷ hs) e =
     (λ rest. let r = is-twice hs rest in (suc (r .0), suc (r .1), (let a = r .2 in omega arith), (let b = r .3 in omega arith), r .4))
     (and-cases (not (among h hs)) (distinct hs) e)
 
-not-twice : (on : List ℕ) (i j : ℕ) → distinct on ≡ true → i < j → j < length on → getD on i 0 ≡ getD on j 0 → ⊥
+pub not-twice : (on : List ℕ) (i j : ℕ) → distinct on ≡ true → i < j → j < length on → getD on i 0 ≡ getD on j 0 → ⊥
 not-twice [] i j e a b f = absurd (omega arith)
 not-twice (h ∷ hs) zero zero e a b f = omega arith
 not-twice (h ∷ hs) zero (suc j) e a b f =

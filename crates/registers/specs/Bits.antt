@@ -1,6 +1,6 @@
 -- The content of a level: a bit for each handle, and where the search for the next handle begins.
 use mathlib.Core.Bool.{Bool, true, false, cond, not, _&&_}
-use mathlib.Core.List.{List, [], _∷_}
+use mathlib.Core.List.{List}
 use Prim.Native.Nat.{ℕ, _+_}
 use lib.ListN.{getD, set, replicate}
 use Rattle.calculus.specs.declared.gates.Gate.{Gate}

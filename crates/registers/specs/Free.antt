@@ -1,8 +1,8 @@
 -- Where there is room below the capacity, the next handle is below 32 and not live.
 use mathlib.Core.Path.{_≡_, refl, sym, _∙_}
-use mathlib.Core.Bool.{Bool, true, false, cond}
-use mathlib.Core.List.{List, [], _∷_, _++_}
-use Prim.Native.Nat.{ℕ, zero, suc, _+_, _<_, _≤_, min}
+use mathlib.Core.Bool.{Bool, true, false}
+use mathlib.Core.List.{List, [], _∷_}
+use Prim.Native.Nat.{ℕ, zero, suc, _<_, _≤_}
 use native.Mathlib.Omega.{arith}
 use native.Mathlib.Numerals.{one-add}
 use lib.Dec.{ltb}
@@ -11,7 +11,7 @@ use Rattle.std.proofs.shelf.Lists.{getD-drop, getD-take}
 use Rattle.std.proofs.shelf.Tests.{cond-both, ltb-true}
 use Rattle.calculus.specs.declared.gates.Gate.{Gate}
 use Rattle.registers.specs.declared.handles.Handles.{Handles}
-use Rattle.registers.specs.Meaning.{Owed, counted, none-live}
+use Rattle.registers.specs.Meaning.{Owed, counted}
 use Rattle.registers.specs.Handles.{first-free, free-from, next-free, places, room, next-handle, shown}
 
 pub places-wide : (l : List Bool) → length (places l) ≡ 32
@@ -33,18 +33,18 @@ free-below [] h = h
 free-below (true ∷ l) h = let r = free-below l (omega arith) in omega arith
 free-below (false ∷ l) h = omega arith
 
-pub next-at : (l : List Bool) (start : ℕ) → getD l (next-free l start) false ≡ false
+next-at : (l : List Bool) (start : ℕ) → getD l (next-free l start) false ≡ false
 next-at l start = cond-both (ltb (free-from l start) (length l)) _ _ (λ k. getD l k false ≡ false) (λ _. from-at start) (λ _. from-at 0)
   where
     from-at : (k : ℕ) → getD l (free-from l k) false ≡ false
     from-at k = sym (getD-drop k l (first-free (drop k l)) false) ∙ free-at (drop k l)
 
-pub next-below : (l : List Bool) (start : ℕ) → counted l < length l → next-free l start < length l
+next-below : (l : List Bool) (start : ℕ) → counted l < length l → next-free l start < length l
 next-below l start h = cond-both (ltb (free-from l start) (length l)) _ _ (λ k. k < length l) (ltb-true _ _) (λ _. let f = free-below l h in omega arith)
 
 -- the places below a number of them
 module _ (n : ℕ) (l : List Bool) (wide : length l ≡ 32) (small : n ≤ 32) where
-  below-long : length (take n l) ≡ n
+  pub below-long : length (take n l) ≡ n
   below-long = simp length-take (omega arith)
 
   pub next-small : (start : ℕ) → counted l < n → next-free (take n l) start < n
@@ -56,11 +56,16 @@ module _ (n : ℕ) (l : List Bool) (wide : length l ≡ 32) (small : n ≤ 32) w
   pub next-dead : (start : ℕ) → counted l < n → getD l (next-free (take n l) start) false ≡ false
   next-dead start h = sym (getD-take n l (next-free (take n l) start) false (next-small start h)) ∙ next-at (take n l) start
 
+module _ (s : Handles) (h : counted (places (s .live)) < room s) where
+  pub handle-below : next-handle s < room s
+  handle-below = next-small (room s) (places (s .live)) (places-wide (s .live)) (omega arith) (s .next) h
+
+  pub handle-not-live : getD (places (s .live)) (next-handle s) false ≡ false
+  handle-not-live = next-dead (room s) (places (s .live)) (places-wide (s .live)) (omega arith) (s .next) h
+
 pub handles-owed : {C : Type 0} (s : Handles) (makes : Gate → Bool) (pulses : ℕ) (content : C) → Owed (shown s makes pulses content) (next-handle s)
-handles-owed s makes pulses content =
-    let wide = places-wide (s .live) in
-    record {
-      small = omega arith;
-      wide = wide;
-      free = λ _ h. (let b = next-small (room s) (places (s .live)) wide (omega arith) (s .next) h in omega arith, next-dead (room s) (places (s .live)) wide (omega arith) (s .next) h);
-    }
+handles-owed s makes pulses content = record {
+  small = omega arith;
+  wide = places-wide (s .live);
+  free = λ _ h. (let b = handle-below s h in omega arith, handle-not-live s h);
+}

@@ -1,10 +1,10 @@
 -- The live handles of a tape or a level, and which is answered next.
-use mathlib.Core.Path.{_≡_, refl}
-use mathlib.Core.Bool.{Bool, true, false, cond}
+use mathlib.Core.Path.{_≡_}
+use mathlib.Core.Bool.{Bool, true, cond}
 use mathlib.Core.List.{List, [], _∷_, _++_}
 use Prim.Native.Nat.{ℕ, _+_, min}
 use lib.Dec.{ltb}
-use lib.ListN.{length, set, take, drop, replicate}
+use lib.ListN.{length, set, take, drop}
 use Rattle.calculus.specs.declared.gates.Gate.{Gate}
 use Rattle.registers.specs.declared.fault.RegisterReason.{RegisterReason}
 use Rattle.registers.specs.declared.handles.Handles.{Handles}

@@ -7,7 +7,7 @@ use lib.ListN.{length, getD, set}
 use Rattle.registers.specs.declared.tape.Tape.{Tape}
 use Rattle.calculus.specs.declared.gates.Gate.{Gate}
 use Rattle.registers.specs.declared.journal.Entry.{Entry}
-use Rattle.registers.specs.declared.journal.Entry.the-variants.{Empty, Prepare, Gate as Gated, Read}
+use Rattle.registers.specs.declared.journal.Entry.the-variants.{Prepare, Gate as Gated, Read}
 use Rattle.registers.specs.Meaning.{Meaning, Changes}
 use Rattle.registers.specs.Handles.{shown, unused}
 

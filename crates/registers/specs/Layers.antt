@@ -1,7 +1,7 @@
 -- A limit on the live handles of the register below.
 use mathlib.Core.Path.{_≡_}
 use mathlib.Core.Bool.{cond}
-use Prim.Native.Nat.{ℕ, _+_, _<_, _≤_, min}
+use Prim.Native.Nat.{ℕ, _+_, min}
 use native.Mathlib.Omega.{arith}
 use lib.Dec.{leb}
 use Rattle.std.specs.declared.result.Result.{Result}
@@ -9,7 +9,7 @@ use Rattle.std.specs.declared.result.Result.the-variants.{Ok, Err}
 use Rattle.registers.specs.declared.fault.RegisterReason.{RegisterReason}
 use Rattle.registers.specs.declared.fault.RegisterReason.the-variants.{NoPulses, Full, GateNotMade, WrongCount, NotLive, GivenTwice}
 use Rattle.registers.specs.declared.fault.RegisterFault.{RegisterFault}
-use Rattle.registers.specs.Meaning.{Meaning, Owed, counted}
+use Rattle.registers.specs.Meaning.{Meaning, Owed}
 
 -- one layer deeper, and at most 65,535
 abbrev pub deeper : ℕ → ℕ

@@ -34,16 +34,18 @@ none-live = replicate 32 false
 abbrev pub Live : {C : Type 0} → Meaning C → ℕ → Type 0
 Live m h = getD (m .live) h false ≡ true
 
--- The handle that a prepare answers is free to each register, but for this: with a pulse left and room it is below 32 and not live.
+-- Two answers are free. The outcome of a read is 0 or 1, as each register says. The handle of a prepare is any that is below 32
+-- and not live, wherever a pulse is left and there is room.
 abbrev pub Fresh : {C : Type 0} → Meaning C → ℕ → Type 0
 Fresh m fresh = 0 < m .pulses → counted (m .live) < m .capacity → (fresh < 32) × (getD (m .live) fresh false ≡ false)
 
--- What each register owes besides its answers. (The outcome of a read is free: 0 or 1.)
+-- What each register owes besides its answers.
 pub record Owed {C : Type 0} (m : Meaning C) (fresh : ℕ) : Type 0 where
   pub small : m .capacity ≤ 32
   pub wide : length (m .live) ≡ 32
   pub free : Fresh m fresh
 
+-- the register after each accepted call
 module _ {C : Type 0} (changes : Changes C) (m : Meaning C) where
   abbrev pub after-prepare : ℕ → Bool → Meaning C
   after-prepare h bit = record { capacity = m .capacity; makes = m .makes; live = set (m .live) h true; pulses = m .pulses - 1; content = changes .prepared (m .content) h bit }

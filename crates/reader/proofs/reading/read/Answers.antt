@@ -1,8 +1,9 @@
-use mathlib.Core.Path.{_≡_, ap, _∙_}
+use mathlib.Core.Path.{ap, _∙_}
 use native.Mathlib.Omega.{arith}
 use Rattle.std.specs.declared.result.Result.the-variants.{Ok, Err}
+use Rattle.reader.specs.declared.faults.ReadFault.{ReadFault}
 use Rattle.reader.specs.Reading.{Outcome, left}
-use Rattle.reader.proofs.Exacts.{done}
+use Rattle.reader.proofs.Exacts.{done, bounded}
 use Rattle.reader.proofs.Turns.{stepped, ends}
 use Rattle.reader.proofs.reading.read.Needs as need
 
@@ -20,12 +21,15 @@ returns-in-Err c =
     let t = c .in-Err .ensures tt in
     let s = c .in-Some .ensures tt in
     let step = stepped (l .rest .now) (c .in-Some .line .now) (c .in-Some .after .now) (l .due) (l .place) (l .types) (l .terms) (s .parts) in
-    let e = step (Err (c .in-Err .reason)) (c .take-line .last .types) (c .take-line .last .terms) (t .answer) (t .types) (t .terms) ∙ l .inv .2 in
+    let e =
+    ap (λ (f : ReadFault). left (Err f) (c .take-line .last .types) (c .take-line .last .terms)) (c .at .ensures)
+    ∙ step (Err (c .in-Err .reason)) (c .take-line .last .types) (c .take-line .last .terms) (t .answer) (t .types) (t .terms) ∙ l .inv .2 in
     record {
       answer = ap (λ (o : Outcome). o .answer) e;
       types = ap (λ (o : Outcome). o .types) e;
       terms = ap (λ (o : Outcome). o .terms) e;
       stored = done (c .args .text .now) (c .args .types .now) (c .args .terms .now) _ _ _ e;
+      within = bounded (c .args .text .now) (c .args .types .now) (c .args .terms .now) _ _ _ e;
     }
 
 pub returns : need.returns
@@ -39,4 +43,5 @@ returns c =
       types = ap (λ (o : Outcome). o .types) e;
       terms = ap (λ (o : Outcome). o .terms) e;
       stored = done (c .args .text .now) (c .args .types .now) (c .args .terms .now) _ _ _ e;
+      within = bounded (c .args .text .now) (c .args .types .now) (c .args .terms .now) _ _ _ e;
     }
