@@ -1,5 +1,8 @@
 //! The comparisons: of whole shots, of checks, and of finders.
 
+ghost use mathlib.Core.Path.{_≡_};
+ghost use lib.ListN.{take};
+ghost use Rattle.agreement.specs.Rules.{renamed-rule};
 use crate::tally::GOES_ON;
 use crate::tally::Subject;
 use crate::tally::Tally;
@@ -27,7 +30,9 @@ use stepper::find;
 const MOST_BYTES: usize = 16_384;
 
 // The part of a text that is read.
-fn seen(text: &[u8]) -> &[u8] {
+fn seen(text: &[u8]) -> &[u8]
+    ensures { λ r. ⌜ now r ≡ take 16384 (now (text .entry)) ⌝ }
+{
     if text.len() > MOST_BYTES {
         &text[0..MOST_BYTES]
     } else {
@@ -102,7 +107,9 @@ pub fn compare_checks(rt: &LibcRuntime, tally: &mut Tally, draft: &Draft) -> io:
 }
 
 // The second interpreter's name of a rule.
-fn renamed(rule: Rule) -> SecondRule {
+fn renamed(rule: Rule) -> SecondRule
+    ensures { λ r. ⌜ r ≡ renamed-rule rule ⌝ }
+{
     match rule {
         Rule::Function => SecondRule::Function,
         Rule::Pair => SecondRule::Pair,

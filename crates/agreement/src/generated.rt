@@ -19,6 +19,7 @@ use samples::marks;
 use samples::pulses;
 use samples::rounds;
 use samples::term_cells;
+use samples::turns;
 use samples::type_cells;
 use std::io;
 
@@ -107,6 +108,7 @@ pub fn compare_limits(rt: &LibcRuntime, tally: &mut Tally) -> io::Result<()> {
     compare_runs(rt, tally)?;
     for depth in 1..10 {
         compare_draft(rt, tally, &doublings(heap, 1, depth, 0)?)?;
+        compare_draft(rt, tally, &turns(heap, depth)?)?;
     }
     for more in 64..74 {
         compare_draft(rt, tally, &doublings(heap, 7, 6, more)?)?;
@@ -114,7 +116,8 @@ pub fn compare_limits(rt: &LibcRuntime, tally: &mut Tally) -> io::Result<()> {
     Ok(())
 }
 
-/// Compares the checks of tables that are longer than the reader makes them.
+/// Compares the checks of tables that are longer than the reader makes them: a file never comes to their fault, since the
+/// reader refuses the line past the limit.
 pub fn compare_long_tables(rt: &LibcRuntime, tally: &mut Tally) -> io::Result<()> {
     let heap = tally.heap();
     for cells in 510..520 {

@@ -1,23 +1,32 @@
 //! Types drawn at random, each with closed values, and the types of the constants.
 
+ghost use mathlib.Core.Path.{_≡_};
 ghost use Prim.Native.Nat.{_<_};
+ghost use Rattle.std.specs.Vec.{made};
+ghost use Rattle.second.specs.Kinds.{marks-of};
 use crate::random::Random;
 use second::Kind;
 use std::alloc::AllocError;
 use std::alloc::Global;
 
 /// The type of functions from one type to another.
-pub fn arrow(heap: Global, marks: usize, a: Kind, b: Kind) -> Result<Kind, AllocError> {
+pub fn arrow(heap: Global, marks: usize, a: Kind, b: Kind) -> Result<Kind, AllocError>
+    ensures { λ r. ⌜ made r (λ k. marks-of k ≡ marks) ⌝ }
+{
     Ok(Kind::Arrow(marks, Box::new(heap, a)?, Box::new(heap, b)?))
 }
 
 /// The type of pairs.
-pub fn pair(heap: Global, marks: usize, a: Kind, b: Kind) -> Result<Kind, AllocError> {
+pub fn pair(heap: Global, marks: usize, a: Kind, b: Kind) -> Result<Kind, AllocError>
+    ensures { λ r. ⌜ made r (λ k. marks-of k ≡ marks) ⌝ }
+{
     Ok(Kind::Pair(marks, Box::new(heap, a)?, Box::new(heap, b)?))
 }
 
 /// The type of as many qubits as a gate of a number takes.
-pub fn operands(heap: Global, gate: u16) -> Result<Kind, AllocError> {
+pub fn operands(heap: Global, gate: u16) -> Result<Kind, AllocError>
+    ensures { λ r. ⌜ made r (λ k. marks-of k ≡ 0) ⌝ }
+{
     match gate {
         0..=4 => Ok(Kind::Qubit(0)),
         5 | 6 => pair(heap, 0, Kind::Qubit(0), Kind::Qubit(0)),
@@ -32,7 +41,9 @@ pub fn operands(heap: Global, gate: u16) -> Result<Kind, AllocError> {
 pub const FUNCTIONS: usize = 10;
 
 /// The op, the argument and the own type of a constant that is a function, by its number below ten.
-pub fn function(heap: Global, number: u16) -> Result<(char, u16, Kind), AllocError> {
+pub fn function(heap: Global, number: u16) -> Result<(char, u16, Kind), AllocError>
+    ensures { λ r. ⌜ made r (λ c. marks-of (c .2) ≡ 1) ⌝ }
+{
     match number {
         0..=7 => {
             let own = arrow(heap, 1, operands(heap, number)?, operands(heap, number)?)?;
@@ -60,7 +71,9 @@ pub fn any_kind(
     heap: Global,
     depth: u32,
     holds_qubits: bool,
-) -> Result<Kind, AllocError> {
+) -> Result<Kind, AllocError>
+    ensures { λ r. ⌜ made r (λ k. marks-of k < 3) ⌝ }
+{
     let marks = any_marks(random);
     let choice = random.below(if depth == 0 { 6 } else { 15 });
     match choice {

@@ -1,11 +1,10 @@
 //! Programs with something changed: a cell, or the bytes of the text.
 
-ghost use Prim.Native.Nat.{_<_};
-ghost use lib.ListN.{length};
 use crate::drafts::Draft;
 use crate::drafts::as_claim;
 use crate::random::Random;
 use calculus::TermCell;
+use calculus::op_shape;
 use std::alloc::AllocError;
 use std::alloc::Global;
 
@@ -216,6 +215,27 @@ pub fn damage_text(heap: Global, random: &mut Random, text: &[u8]) -> Result<Vec
     }
 }
 
+// A cell with an op, and mostly with an argument that it allows.
+fn any_cell(random: &mut Random, op: char, claim: u16) -> TermCell {
+    let argument = match op {
+        'v' => random.below(4),
+        'q' => random.below(32),
+        'g' => random.below(8),
+        _ => 0,
+    };
+    let is_wrong = random.chance(1) && random.chance(20);
+    let argument = as_claim(if is_wrong {
+        argument.saturating_add(30)
+    } else {
+        argument
+    });
+    TermCell {
+        op,
+        argument,
+        claim,
+    }
+}
+
 /// Cells that are mostly one running term, with any ops and arguments.
 pub fn any_running(
     heap: Global,
@@ -228,33 +248,16 @@ pub fn any_running(
         if due == 0 && !random.chance(2) {
             break;
         }
-        let op = if due.saturating_add(i) > most / 2 {
+        let is_leaf = due.saturating_add(i) > most / 2;
+        let op = if is_leaf {
             any_leaf(random)
         } else {
             any_op(random)
         };
-        let argument = match op {
-            'v' => random.below(4),
-            'q' => random.below(32),
-            'g' => random.below(8),
-            _ => 0,
-        };
-        let is_wrong = random.chance(1) && random.chance(20);
-        let argument = as_claim(if is_wrong {
-            argument.saturating_add(30)
-        } else {
-            argument
-        });
-        cells.push(TermCell {
-            op,
-            argument,
-            claim: as_claim(i),
-        })?;
-        let parts = match op {
-            'i' => 3,
-            'a' | 'p' | 'd' => 2,
-            'l' => 1,
-            _ => 0,
+        cells.push(any_cell(random, op, as_claim(i)))?;
+        let parts = match op_shape(op) {
+            Some(shape) => shape.parts,
+            None => 0,
         };
         due = due.saturating_sub(1).saturating_add(parts);
     }

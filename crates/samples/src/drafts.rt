@@ -1,7 +1,9 @@
 //! A program in the making: its two tables, and the text that stores them.
 
-ghost use Prim.Native.Nat.{_≤_};
-ghost use lib.ListN.{length};
+ghost use mathlib.Core.Path.{_≡_};
+ghost use Prim.Native.Nat.{_+_, min};
+ghost use Rattle.std.specs.Of.Vec.{vec-len};
+ghost use Rattle.std.specs.Vec.{made};
 use calculus::TermCell;
 use calculus::TypeCell;
 use second::Kind;
@@ -30,7 +32,9 @@ fn stands_at(types: &[TypeCell], code: &[TypeCell], place: usize) -> bool {
 }
 
 /// A place as a claim holds it.
-pub(crate) fn as_claim(place: usize) -> u16 {
+pub(crate) fn as_claim(place: usize) -> u16
+    ensures { λ r. ⌜ r ≡ min place 65535 ⌝ }
+{
     u16::try_from(place).unwrap_or(u16::MAX)
 }
 
@@ -76,8 +80,29 @@ impl Draft {
         Ok(())
     }
 
+    /// More term cells from a text: op, argument and claim of each, with a comma and a blank between cells.
+    pub fn stored(&mut self, cells: &str) -> Result<(), AllocError> {
+        for cell in cells.split(',') {
+            let mut fields = cell.split_whitespace();
+            let (Some(op), Some(argument), Some(claim)) = (
+                fields.next(),
+                fields.next(),
+                fields.next(),
+            ) else {
+                return Ok(());
+            };
+            for op in op.chars() {
+                let argument = argument.parse::<u16>().unwrap_or(u16::MAX);
+                self.cell(op, argument, claim.parse::<u16>().unwrap_or(u16::MAX))?;
+            }
+        }
+        Ok(())
+    }
+
     /// One more term cell, which claims a place.
-    pub fn cell(&mut self, op: char, argument: u16, claim: u16) -> Result<(), AllocError> {
+    pub fn cell(&mut self, op: char, argument: u16, claim: u16) -> Result<(), AllocError>
+        ensures { λ r. ⌜ made r (λ _. vec-len (now (self .exit) .terms) ≡ vec-len (now (self .entry) .terms) + 1) ⌝ }
+    {
         self.terms
             .push(TermCell {
                 op,
@@ -85,12 +110,6 @@ impl Draft {
                 claim,
             })?;
         Ok(())
-    }
-
-    /// One more term cell, which claims a type.
-    pub fn emit(&mut self, op: char, argument: u16, kind: &Kind) -> Result<(), AllocError> {
-        let claim = self.place(kind, false)?;
-        self.cell(op, argument, claim)
     }
 
     fn type_lines(&self, text: &mut String) -> Result<(), AllocError> {

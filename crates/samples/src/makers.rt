@@ -1,5 +1,11 @@
 //! Terms drawn at random by the typing rules, from the root down, with a claim at each node.
 
+ghost use mathlib.Core.Path.{_≡_};
+ghost use mathlib.Core.Bool.{cond};
+ghost use Prim.Native.Nat.{_+_, _-_, _^_};
+ghost use lib.Dec.{ltb};
+ghost use Rattle.std.specs.Of.Vec.{vec-len};
+ghost use Rattle.std.specs.Vec.{made};
 use crate::any::any_kind;
 use crate::any::arrow;
 use crate::any::pair;
@@ -40,12 +46,16 @@ pub(crate) struct Maker {
     pub(crate) is_careless: bool,
 }
 
-pub(crate) fn bit(level: usize) -> u64 {
+pub(crate) fn bit(level: usize) -> u64
+    ensures { λ r. ⌜ r ≡ cond (ltb level 64) (2 ^ level) 0 ⌝ }
+{
     if level < 64 { 1u64 << level } else { 0 }
 }
 
 // The levels below one.
-pub(crate) fn under(level: usize) -> u64 {
+pub(crate) fn under(level: usize) -> u64
+    ensures { λ r. ⌜ r ≡ cond (ltb level 64) (2 ^ level - 1) (2 ^ 64 - 1) ⌝ }
+{
     if level < 64 {
         (1u64 << level) - 1
     } else {
@@ -66,7 +76,9 @@ impl Maker {
         self.draft.cell(op, argument, claim)
     }
 
-    pub(crate) fn due(&mut self, kind: &Kind, fuel: u32) -> Result<(), AllocError> {
+    pub(crate) fn due(&mut self, kind: &Kind, fuel: u32) -> Result<(), AllocError>
+        ensures { λ r. ⌜ made r (λ _. vec-len (now (self .exit) .tasks) ≡ vec-len (now (self .entry) .tasks) + 1) ⌝ }
+    {
         let kind = kind.marked(self.heap, 0)?;
         self.tasks.push(Task::Make(kind, fuel))?;
         Ok(())

@@ -1,2 +1,4 @@
 pub mod Kinds
 pub mod Tables
+pub mod Terms
+pub mod Trees

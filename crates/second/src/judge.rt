@@ -1,6 +1,14 @@
 //! The typing rules on trees: the first fault in tree order, and which variables a tree uses.
 
-ghost use Prim.Native.Nat.{_<_};
+ghost use mathlib.Core.Path.{_≡_};
+ghost use Prim.Native.Nat.{_+_, _<_, _≤_};
+ghost use lib.ListN.{length};
+ghost use Rattle.std.specs.Of.Vec.{vec-len};
+ghost use Rattle.std.specs.Results.{Cases};
+ghost use Rattle.std.specs.Vec.{made};
+ghost use Rattle.std.specs.declared.result.Result.the-variants.{Ok, Err};
+ghost use Rattle.second.specs.Kinds.{marks-of};
+ghost use Rattle.second.specs.declared.halt.Halt.the-variants.{Fault};
 use crate::halt::Halt;
 use crate::halt::HaltFromAlloc;
 use crate::halt::HaltFromRefused;
@@ -16,19 +24,25 @@ use std::alloc::AllocError;
 use std::alloc::Global;
 
 // The type that a node claims.
-fn claimed(kinds: &[Kind], site: Site) -> Result<&Kind, Halt> {
+fn claimed(kinds: &[Kind], site: Site) -> Result<&Kind, Halt>
+    ensures { λ r. ⌜ Cases r (λ _. site .claim < length (now (kinds .entry))) (λ e. e ≡ Fault 23 (site .cell)) ⌝ }
+{
     match kinds.get(site.claim) {
         Some(kind) => Ok(kind),
         None => fault(23, site.cell),
     }
 }
 
-fn arrow(heap: Global, marks: usize, a: Kind, b: Kind) -> Result<Kind, AllocError> {
+fn arrow(heap: Global, marks: usize, a: Kind, b: Kind) -> Result<Kind, AllocError>
+    ensures { λ r. ⌜ made r (λ k. marks-of k ≡ marks) ⌝ }
+{
     Ok(Kind::Arrow(marks, Box::new(heap, a)?, Box::new(heap, b)?))
 }
 
 // A qubit, or the pair of qubits, or of a qubit and a pair, that a gate works on.
-fn qubits(heap: Global, gate: u16) -> Result<Kind, AllocError> {
+fn qubits(heap: Global, gate: u16) -> Result<Kind, AllocError>
+    ensures { λ r. ⌜ made r (λ k. marks-of k ≡ 0) ⌝ }
+{
     if gate < 5 {
         return Ok(Kind::Qubit(0));
     }
@@ -66,7 +80,9 @@ fn linear(scope: &[Kind]) -> u64 {
 }
 
 // A variable: the level of its binder, alone.
-fn variable(site: Site, index: u16, kinds: &[Kind], scope: &[Kind]) -> Result<u64, Halt> {
+fn variable(site: Site, index: u16, kinds: &[Kind], scope: &[Kind]) -> Result<u64, Halt>
+    ensures { λ r. ⌜ (length (now (scope .entry)) ≤ index → r ≡ Err (Fault 25 (site .cell))) ⌝ }
+{
     let index = index as usize;
     if index >= scope.len() {
         return fault(25, site.cell);
@@ -76,6 +92,17 @@ fn variable(site: Site, index: u16, kinds: &[Kind], scope: &[Kind]) -> Result<u6
         return fault(26, site.cell);
     }
     Ok(1u64 << level)
+}
+
+// A constant uses no variable.
+fn leaf_uses(heap: Global, site: Site, leaf: Constant, kinds: &[Kind]) -> Result<u64, Halt>
+    ensures { λ r. ⌜ made r (λ used. used ≡ 0) ⌝ }
+{
+    if is_typed(heap, leaf, claimed(kinds, site)?)? {
+        Ok(0)
+    } else {
+        fault(26, site.cell)
+    }
 }
 
 // The two sets of levels together, where no variable of theirs that may be used once only is in both.
@@ -93,7 +120,9 @@ fn enter_lambda(
     body: Site,
     kinds: &[Kind],
     scope: &mut Vec<Kind>,
-) -> Result<usize, Halt> {
+) -> Result<usize, Halt>
+    ensures { λ r. ⌜ (32 ≤ vec-len (now (scope .entry)) → r ≡ Err (Fault 24 (site .cell))) ⌝ }
+{
     if scope.len() >= MOST_BINDERS {
         return fault(24, site.cell);
     }
@@ -114,7 +143,9 @@ fn open_split(
     body: Site,
     kinds: &[Kind],
     scope: &[Kind],
-) -> Result<(Kind, Kind), Halt> {
+) -> Result<(Kind, Kind), Halt>
+    ensures { λ r. ⌜ (32 < length (now (scope .entry)) + 2 → r ≡ Err (Fault 24 (site .cell))) ⌝ }
+{
     if scope.len() + 2 > MOST_BINDERS {
         return fault(24, site.cell);
     }
@@ -203,7 +234,9 @@ fn outside(used: u64, level: usize) -> u64 {
 }
 
 // A function with marks may use no outer variable that may be used once only.
-fn leave_lambda(site: Site, marks: usize, outer: u64, scope: &[Kind]) -> Result<u64, Halt> {
+fn leave_lambda(site: Site, marks: usize, outer: u64, scope: &[Kind]) -> Result<u64, Halt>
+    ensures { λ r. ⌜ (marks ≡ 0 → r ≡ Ok outer) ⌝ }
+{
     if marks > 0 && outer & linear(scope) != 0 {
         return fault(28, site.cell);
     }
@@ -220,13 +253,7 @@ pub fn judge(
     let level = scope.len();
     match tree {
         Tree::Variable(site, index) => variable(*site, *index, kinds, scope),
-        Tree::Constant(site, leaf) => {
-            if is_typed(heap, *leaf, claimed(kinds, *site)?)? {
-                Ok(0)
-            } else {
-                fault(26, site.cell)
-            }
-        }
+        Tree::Constant(site, leaf) => leaf_uses(heap, *site, *leaf, kinds),
         Tree::Lambda(site, body) => {
             let marks = enter_lambda(heap, *site, body.site(), kinds, scope)?;
             let used = judge(heap, body, kinds, scope)?;

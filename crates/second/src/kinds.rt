@@ -1,7 +1,10 @@
 //! Types as trees: each node counts the marks that lead it, so that stripping them is no work.
 
 ghost use mathlib.Core.Path.{_≡_};
-ghost use Rattle.second.specs.Kinds.{marks-of};
+ghost use mathlib.Core.Bool.{false};
+ghost use Prim.Native.Nat.{_+_, _-_, _<_, _^_, min};
+ghost use Rattle.std.specs.Vec.{made};
+ghost use Rattle.second.specs.Kinds.{marks-of, same-kind};
 use calculus::TypeCell;
 use std::alloc::AllocError;
 use std::alloc::Global;
@@ -28,7 +31,9 @@ impl Kind {
     }
 
     /// A copy of the type with more marks in front.
-    pub fn marked(&self, heap: Global, more: usize) -> Result<Kind, AllocError> {
+    pub fn marked(&self, heap: Global, more: usize) -> Result<Kind, AllocError>
+        ensures { λ r. ⌜ made r (λ k. marks-of k ≡ min (marks-of (now (self .entry)) + more) (2 ^ 64 - 1)) ⌝ }
+    {
         match self {
             Kind::Bit(n) => Ok(Kind::Bit(n.saturating_add(more))),
             Kind::Qubit(n) => Ok(Kind::Qubit(n.saturating_add(more))),
@@ -75,7 +80,9 @@ pub fn write_kind(kind: &Kind, cells: &mut Vec<TypeCell>) -> Result<(), AllocErr
 }
 
 /// Whether two types are the same tree.
-pub fn same(a: &Kind, b: &Kind) -> bool {
+pub fn same(a: &Kind, b: &Kind) -> bool
+    ensures { λ r. ⌜ r ≡ same-kind (now (a .entry)) (now (b .entry)) ⌝ }
+{
     match (a, b) {
         (Kind::Bit(n), Kind::Bit(m)) => *n == *m,
         (Kind::Qubit(n), Kind::Qubit(m)) => *n == *m,
@@ -87,7 +94,9 @@ pub fn same(a: &Kind, b: &Kind) -> bool {
 }
 
 /// Whether the first type is a subtype of the second.
-pub fn is_below(a: &Kind, b: &Kind) -> bool {
+pub fn is_below(a: &Kind, b: &Kind) -> bool
+    ensures { λ r. ⌜ (0 < marks-of (now (b .entry)) → marks-of (now (a .entry)) ≡ 0 → r ≡ false) ⌝ }
+{
     if b.marks() > 0 && a.marks() == 0 {
         return false;
     }

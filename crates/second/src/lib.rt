@@ -14,7 +14,6 @@ mod terms;
 mod texts;
 mod trees;
 
-pub use halt::Halt;
 pub use kinds::Kind;
 pub use kinds::is_below;
 pub use kinds::same;

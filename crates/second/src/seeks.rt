@@ -1,5 +1,7 @@
 //! Where the next step of a running term is, by cell.
 
+ghost use mathlib.Core.Path.{_≡_};
+ghost use Rattle.second.specs.Terms.{applied-of, branch-of, split-of, placed-at};
 use crate::steps::gate_pulse;
 use crate::terms::Term;
 use crate::terms::size;
@@ -25,7 +27,9 @@ pub enum Place {
     Stuck(usize),
 }
 
-fn placed(rule: Option<SecondRule>, at: usize) -> Place {
+fn placed(rule: Option<SecondRule>, at: usize) -> Place
+    ensures { λ r. ⌜ r ≡ placed-at rule at ⌝ }
+{
     match rule {
         Some(rule) => Place::Works(rule, at),
         None => Place::Stuck(at),
@@ -33,7 +37,9 @@ fn placed(rule: Option<SecondRule>, at: usize) -> Place {
 }
 
 // The rule of a value applied to a value.
-fn apply_rule(function: &Term, value: &Term) -> Option<SecondRule> {
+fn apply_rule(function: &Term, value: &Term) -> Option<SecondRule>
+    ensures { λ r. ⌜ r ≡ applied-of (now (function .entry)) (now (value .entry)) ⌝ }
+{
     match (function, value) {
         (Term::Lambda(_, _), _) => Some(SecondRule::Function),
         (Term::Constant(Constant::New), Term::Constant(Constant::Zero | Constant::One)) => Some(
@@ -51,7 +57,9 @@ fn apply_rule(function: &Term, value: &Term) -> Option<SecondRule> {
 }
 
 // The rule of a condition that is a value.
-fn choose_rule(condition: &Term) -> Option<SecondRule> {
+fn choose_rule(condition: &Term) -> Option<SecondRule>
+    ensures { λ r. ⌜ r ≡ branch-of (now (condition .entry)) ⌝ }
+{
     match condition {
         Term::Constant(Constant::One) => Some(SecondRule::Then),
         Term::Constant(Constant::Zero) => Some(SecondRule::Else),
@@ -59,7 +67,9 @@ fn choose_rule(condition: &Term) -> Option<SecondRule> {
     }
 }
 
-fn split_rule(pair: &Term) -> Option<SecondRule> {
+fn split_rule(pair: &Term) -> Option<SecondRule>
+    ensures { λ r. ⌜ r ≡ split-of (now (pair .entry)) ⌝ }
+{
     match pair {
         Term::Pair(_, _) => Some(SecondRule::Pair),
         _ => None,

@@ -1,5 +1,9 @@
-//! The article's call-by-value rules, on named terms: where the next step is, and what it leaves.
+//! The call-by-value rules of "A lambda calculus for quantum computation with classical control", on named terms: what
+//! each step leaves.
 
+ghost use mathlib.Core.Path.{_≡_};
+ghost use Rattle.second.specs.Terms.{qubit-of, two-qubits-of, pulse-of, leaf-bit};
+ghost use Rattle.second.specs.declared.terms.Term.the-variants.{Constant as Constant-term};
 use crate::halt::Halt;
 use crate::halt::HaltFromAlloc;
 use crate::halt::HaltFromRefused;
@@ -14,7 +18,9 @@ use std::alloc::AllocError;
 use std::alloc::Global;
 
 // The handle of a term that is a qubit.
-fn qubit(term: &Term) -> Option<u16> {
+fn qubit(term: &Term) -> Option<u16>
+    ensures { λ r. ⌜ r ≡ qubit-of (now (term .entry)) ⌝ }
+{
     match term {
         Term::Constant(Constant::Qubit(handle)) => Some(*handle),
         _ => None,
@@ -22,7 +28,9 @@ fn qubit(term: &Term) -> Option<u16> {
 }
 
 // The handles of a term that is a pair of qubits.
-fn two_qubits(term: &Term) -> Option<(u16, u16)> {
+fn two_qubits(term: &Term) -> Option<(u16, u16)>
+    ensures { λ r. ⌜ r ≡ two-qubits-of (now (term .entry)) ⌝ }
+{
     match term {
         Term::Pair(a, b) => match (qubit(a), qubit(b)) {
             (Some(a), Some(b)) => Some((a, b)),
@@ -33,7 +41,9 @@ fn two_qubits(term: &Term) -> Option<(u16, u16)> {
 }
 
 /// The pulse of a gate on a value that is as many qubits as the gate takes; three are one and a pair.
-pub fn gate_pulse(gate: u16, on: &Term) -> Option<Pulse> {
+pub fn gate_pulse(gate: u16, on: &Term) -> Option<Pulse>
+    ensures { λ r. ⌜ r ≡ pulse-of gate (now (on .entry)) ⌝ }
+{
     if gate < 5 {
         return match qubit(on) {
             Some(a) => Some(Pulse::One(gate, a)),
@@ -55,7 +65,9 @@ pub fn gate_pulse(gate: u16, on: &Term) -> Option<Pulse> {
     }
 }
 
-fn bit_term(value: bool) -> Term {
+fn bit_term(value: bool) -> Term
+    ensures { λ r. ⌜ r ≡ Constant-term (leaf-bit value) ⌝ }
+{
     Term::Constant(if value { Constant::One } else { Constant::Zero })
 }
 
@@ -124,6 +136,24 @@ fn pair_of(heap: Global, a: Term, b: Term) -> Result<Term, AllocError> {
     Ok(Term::Pair(Box::new(heap, a)?, Box::new(heap, b)?))
 }
 
+fn split_of(heap: Global, x: u32, y: u32, pair: Term, body: &Term) -> Result<Term, AllocError> {
+    Ok(Term::Split(
+        x,
+        y,
+        Box::new(heap, pair)?,
+        Box::new(heap, copy(heap, body)?)?,
+    ))
+}
+
+fn choose_of(heap: Global, condition: Term, one: &Term, zero: &Term) -> Result<Term, AllocError> {
+    let one = Box::new(heap, copy(heap, one)?)?;
+    Ok(Term::Choose(
+        Box::new(heap, condition)?,
+        one,
+        Box::new(heap, copy(heap, zero)?)?,
+    ))
+}
+
 /// What one step makes of the term, or nothing where it is a value.
 pub fn advance(heap: Global, term: &Term, tape: &mut Tape) -> Result<Option<Term>, Halt> {
     match term {
@@ -146,27 +176,13 @@ pub fn advance(heap: Global, term: &Term, tape: &mut Tape) -> Result<Option<Term
                 None => Ok(None),
             }
         }
-        Term::Split(x, y, pair, body) => {
-            if let Some(next) = advance(heap, pair, tape)? {
-                return Ok(Some(Term::Split(
-                    *x,
-                    *y,
-                    Box::new(heap, next)?,
-                    Box::new(heap, copy(heap, body)?)?,
-                )));
-            }
-            Ok(Some(split(heap, *x, *y, pair, body)?))
-        }
-        Term::Choose(condition, one, zero) => {
-            if let Some(next) = advance(heap, condition, tape)? {
-                let one = Box::new(heap, copy(heap, one)?)?;
-                return Ok(Some(Term::Choose(
-                    Box::new(heap, next)?,
-                    one,
-                    Box::new(heap, copy(heap, zero)?)?,
-                )));
-            }
-            Ok(Some(choose(heap, condition, one, zero)?))
-        }
+        Term::Split(x, y, pair, body) => match advance(heap, pair, tape)? {
+            Some(next) => Ok(Some(split_of(heap, *x, *y, next, body)?)),
+            None => Ok(Some(split(heap, *x, *y, pair, body)?)),
+        },
+        Term::Choose(condition, one, zero) => match advance(heap, condition, tape)? {
+            Some(next) => Ok(Some(choose_of(heap, next, one, zero)?)),
+            None => Ok(Some(choose(heap, condition, one, zero)?)),
+        },
     }
 }

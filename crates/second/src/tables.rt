@@ -1,7 +1,11 @@
 //! The faults of whole tables: their lengths, their cells, that they are whole trees, and the places of claims.
 
 ghost use mathlib.Core.Path.{_≡_};
-ghost use Rattle.second.specs.Tables.{parts, kind-parts};
+ghost use Prim.Native.Nat.{_<_};
+ghost use lib.ListN.{length};
+ghost use Rattle.std.specs.declared.result.Result.the-variants.{Err};
+ghost use Rattle.second.specs.declared.halt.Halt.the-variants.{Fault};
+ghost use Rattle.second.specs.Tables.{parts, kind-parts, kind-letter, fit-cell};
 use crate::halt::Halt;
 use crate::halt::fault;
 use calculus::MOST_TERM_CELLS;
@@ -37,12 +41,16 @@ fn type_parts(kind: char) -> usize
     }
 }
 
-fn is_kind(kind: char) -> bool {
+fn is_kind(kind: char) -> bool
+    ensures { λ r. ⌜ r ≡ kind-letter kind ⌝ }
+{
     kind == 'b' || kind == 'q' || kind == 'u' || kind == '!' || type_parts(kind) == 2
 }
 
 /// Whether a cell may stand in a running term, or in a stored one.
-pub fn is_fit(cell: &TermCell, is_running: bool) -> bool {
+pub fn is_fit(cell: &TermCell, is_running: bool) -> bool
+    ensures { λ r. ⌜ r ≡ fit-cell (now (cell .entry)) «is_running» ⌝ }
+{
     match cell.op {
         'v' => true,
         'q' => is_running && cell.argument < 32,
@@ -89,7 +97,9 @@ pub fn one_term(terms: &[TermCell]) -> Result<(), Halt> {
 }
 
 /// The first fault of a program's tables, or none.
-pub fn test_tables(types: &[TypeCell], terms: &[TermCell]) -> Result<(), Halt> {
+pub fn test_tables(types: &[TypeCell], terms: &[TermCell]) -> Result<(), Halt>
+    ensures { λ r. ⌜ (256 < length (now (types .entry)) → r ≡ Err (Fault 20 256)) ⌝ }
+{
     if types.len() > MOST_TYPE_CELLS {
         return fault(20, MOST_TYPE_CELLS);
     }
@@ -108,7 +118,9 @@ pub fn test_tables(types: &[TypeCell], terms: &[TermCell]) -> Result<(), Halt> {
 }
 
 /// The first fault of a running term's cells, or none.
-pub fn test_running(cells: &[TermCell]) -> Result<(), Halt> {
+pub fn test_running(cells: &[TermCell]) -> Result<(), Halt>
+    ensures { λ r. ⌜ (1024 < length (now (cells .entry)) → r ≡ Err (Fault 20 1024)) ⌝ }
+{
     if cells.len() > calculus::MOST_RUNNING_CELLS {
         return fault(20, calculus::MOST_RUNNING_CELLS);
     }

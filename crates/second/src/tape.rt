@@ -1,7 +1,13 @@
 //! The tape's register as the second interpreter knows it: eight qubits, sixty-four pulses, and the parity of a pulse's
 //! number as its outcome.
 
-ghost use Prim.Native.Nat.{_<_};
+ghost use mathlib.Core.Path.{_≡_};
+ghost use mathlib.Core.Bool.{cond};
+ghost use Prim.Native.Nat.{_<_, _≤_, _^_};
+ghost use lib.Dec.{ltb};
+ghost use Rattle.std.specs.Of.Vec.{vec-len};
+ghost use Rattle.std.specs.declared.result.Result.the-variants.{Err};
+ghost use Rattle.second.specs.declared.halt.Halt.the-variants.{Fault};
 ghost use Rattle.std.specs.Options.{Cases as BySome};
 use crate::halt::Halt;
 use crate::halt::HaltFromRefused;
@@ -32,7 +38,9 @@ pub struct Tape {
     pub journal: Vec<Pulse>,
 }
 
-fn bit(handle: u16) -> u64 {
+fn bit(handle: u16) -> u64
+    ensures { λ r. ⌜ r ≡ cond (ltb handle 64) (2 ^ handle) 0 ⌝ }
+{
     if handle < 64 { 1u64 << handle } else { 0 }
 }
 
@@ -69,7 +77,9 @@ impl Tape {
     }
 
     /// Prepares a qubit and answers its handle.
-    pub fn prepare(&mut self, value: bool) -> Result<u16, Halt> {
+    pub fn prepare(&mut self, value: bool) -> Result<u16, Halt>
+        ensures { λ r. ⌜ (64 ≤ vec-len (now (self .entry) .journal) → r ≡ Err (Fault 41 0)) ⌝ }
+    {
         if self.journal.len() >= PULSES {
             return fault(41, 0);
         }
@@ -83,7 +93,9 @@ impl Tape {
     }
 
     /// Reads a qubit, which stays live.
-    pub fn read(&mut self, handle: u16) -> Result<bool, Halt> {
+    pub fn read(&mut self, handle: u16) -> Result<bool, Halt>
+        ensures { λ r. ⌜ (64 ≤ vec-len (now (self .entry) .journal) → r ≡ Err (Fault 41 0)) ⌝ }
+    {
         if self.journal.len() >= PULSES {
             return fault(41, 0);
         }
@@ -96,7 +108,9 @@ impl Tape {
     }
 
     /// Does a gate on live qubits, no two of them the same.
-    pub fn gate(&mut self, pulse: Pulse) -> Result<(), Halt> {
+    pub fn gate(&mut self, pulse: Pulse) -> Result<(), Halt>
+        ensures { λ r. ⌜ (64 ≤ vec-len (now (self .entry) .journal) → r ≡ Err (Fault 41 0)) ⌝ }
+    {
         if self.journal.len() >= PULSES {
             return fault(41, 0);
         }

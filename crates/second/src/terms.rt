@@ -1,7 +1,9 @@
 //! Running terms as boxed trees with named variables.
 
 ghost use mathlib.Core.Path.{_≡_};
-ghost use Prim.Native.Nat.{_-_, _<_};
+ghost use Prim.Native.Nat.{_+_, _-_, _<_};
+ghost use Rattle.std.specs.Of.Vec.{vec-len};
+ghost use Rattle.std.specs.Vec.{made};
 ghost use mathlib.Core.Bool.{cond};
 ghost use lib.Dec.{ltb};
 ghost use lib.ListN.{length, getD};
@@ -55,6 +57,15 @@ fn looked_up(scope: &[u32], index: u16) -> u32
     }
 }
 
+// A name that was not given before, as the nearest in scope.
+fn bind(scope: &mut Vec<u32>, names: &mut Names) -> Result<u32, AllocError>
+    ensures { λ r. ⌜ made r (λ _. vec-len (now (scope .exit)) ≡ vec-len (now (scope .entry)) + 1) ⌝ }
+{
+    let x = names.fresh();
+    scope.push(x)?;
+    Ok(x)
+}
+
 /// The named term of a tree below the binders in scope.
 pub fn name(
     heap: Global,
@@ -66,8 +77,7 @@ pub fn name(
         Tree::Variable(_, index) => Ok(Term::Variable(looked_up(scope, *index))),
         Tree::Constant(_, leaf) => Ok(Term::Constant(*leaf)),
         Tree::Lambda(_, body) => {
-            let x = names.fresh();
-            scope.push(x)?;
+            let x = bind(scope, names)?;
             let body = Box::new(heap, name(heap, body, scope, names)?)?;
             let _ = scope.pop();
             Ok(Term::Lambda(x, body))
@@ -82,9 +92,7 @@ pub fn name(
         }
         Tree::Split(_, pair, body) => {
             let pair = Box::new(heap, name(heap, pair, scope, names)?)?;
-            let (x, y) = (names.fresh(), names.fresh());
-            scope.push(x)?;
-            scope.push(y)?;
+            let (x, y) = (bind(scope, names)?, bind(scope, names)?);
             let body = Box::new(heap, name(heap, body, scope, names)?)?;
             let _ = (scope.pop(), scope.pop());
             Ok(Term::Split(x, y, pair, body))

@@ -1,5 +1,6 @@
 //! The stored program's text: its lines, their fields, and the cells that they name.
 
+ghost use mathlib.Core.Path.{_≡_};
 ghost use Prim.Native.Nat.{_<_, _≤_};
 ghost use lib.ListN.{length};
 ghost use Rattle.std.specs.Options.{Cases as BySome};
@@ -66,7 +67,9 @@ fn number(field: &[u8]) -> Option<u16>
 }
 
 // The one character of a field that is one of the letters.
-fn letter(field: &[u8], letters: &[u8]) -> Option<char> {
+fn letter(field: &[u8], letters: &[u8]) -> Option<char>
+    ensures { λ r. ⌜ BySome r (Unit {0}) (λ _. length (now (field .entry)) ≡ 1) ⌝ }
+{
     if field.len() != 1 {
         return None;
     }

@@ -5,6 +5,8 @@ use crate::halt::HaltFromAlloc;
 use crate::halt::HaltFromRefused;
 use crate::halt::fault;
 use crate::kinds::Kind;
+ghost use mathlib.Core.Path.{_≡_};
+ghost use Rattle.second.specs.Trees.{site-of, constant-of};
 use calculus::TermCell;
 use calculus::TypeCell;
 use std::alloc::Global;
@@ -42,7 +44,9 @@ pub enum Tree {
 
 impl Tree {
     /// The root's site.
-    pub fn site(&self) -> Site {
+    pub fn site(&self) -> Site
+        ensures { λ r. ⌜ r ≡ site-of (now (self .entry)) ⌝ }
+    {
         match self {
             Tree::Variable(site, _) | Tree::Constant(site, _) | Tree::Lambda(site, _) => *site,
             Tree::Apply(site, _, _) | Tree::Pair(site, _, _) | Tree::Split(site, _, _) => *site,
@@ -96,7 +100,9 @@ fn part(heap: Global, stack: &mut Vec<Tree>) -> Result<Box<Tree>, Halt> {
     }
 }
 
-fn bare(op: char, argument: u16) -> Option<Constant> {
+fn bare(op: char, argument: u16) -> Option<Constant>
+    ensures { λ r. ⌜ r ≡ constant-of op argument ⌝ }
+{
     match op {
         '0' => Some(Constant::Zero),
         '1' => Some(Constant::One),
