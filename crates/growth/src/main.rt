@@ -52,7 +52,11 @@ fn check_time(rt: &LibcRuntime, cells: &[TermCell]) -> Result<u128, AnyError> {
 }
 
 // The shortest time of a step on the cells, in nanoseconds: the rule found, the next term counted and then written.
-fn step_time(rt: &LibcRuntime, cells: &[TermCell], work: &mut [TermCell]) -> Result<u128, AnyError> {
+fn step_time(
+    rt: &LibcRuntime,
+    cells: &[TermCell],
+    work: &mut [TermCell],
+) -> Result<u128, AnyError> {
     let mut shortest = u128::MAX;
     for _ in 0..REPEATS {
         let start = Instant::now(rt)?;
