@@ -6,5 +6,6 @@ pub mod Handles
 pub mod Next
 pub mod Free
 pub mod Bits
+pub mod Put
 pub mod Journal
 pub mod Layers

@@ -1,7 +1,8 @@
-//! What holds of every register, of every cap, and of the handles of a tape and a level: each function does nothing, and its contract is a promise.
+//! What holds of every register, of every cap, of the handles of a tape and a level, and of a fresh level: each function does nothing, and its contract is a promise.
 
 ghost use Rattle.registers.specs.Layers.{Caps-merge};
 ghost use Rattle.registers.specs.Next.{Next-is-found};
+ghost use Rattle.registers.specs.Put.{Level-reads-what-was-put};
 ghost use Rattle.registers.specs.Room.{Room-is-kept};
 ghost use Rattle.registers.specs.Sheet.{Refusals-are-exact};
 use crate::register::Register;
@@ -30,6 +31,13 @@ pub fn caps_merge<R: Register>() -> u8
 /// The handle that a tape or a level answers is the next that is not live above the last answered, going round below the capacity.
 pub fn next_is_found() -> u8
     ensures { λ _. ⌜ Next-is-found ⌝ }
+{
+    0
+}
+
+/// A fresh level that only prepares, flips and reads answers, for each handle, the bit it was last prepared at, turned over by each flip since.
+pub fn level_reads_what_was_put() -> u8
+    ensures { λ _. ⌜ Level-reads-what-was-put ⌝ }
 {
     0
 }

@@ -1,0 +1,2 @@
+mod Qubit
+mod Steps
