@@ -8,8 +8,6 @@ use crate::asking::holds;
 use calculus::Gate;
 use calculus::GateDebug;
 use registers::Entry;
-use registers::EntryDebug;
-use registers::EntryPartialEq;
 use registers::Level;
 use registers::LevelRegister;
 use registers::Register;
@@ -111,30 +109,48 @@ fn on_tape(
     asks(&mut tape, table)
 }
 
+fn number_of(bit: bool) -> u16 {
+    if bit { 1 } else { 0 }
+}
+
+fn gate_numbers(gate: Gate, on: [u8; 3]) -> [u16; 5] {
+    let [a, b, c] = on;
+    [3, gate.number(), u16::from(a), u16::from(b), u16::from(c)]
+}
+
+// An entry as numbers: which kind it is, and its fields.
+fn numbers(entry: Entry) -> [u16; 5] {
+    match entry {
+        Entry::Empty => [0, 0, 0, 0, 0],
+        Entry::Prepare { handle, bit } => [1, u16::from(handle), number_of(bit), 0, 0],
+        Entry::Read { handle, outcome } => [2, u16::from(handle), number_of(outcome), 0, 0],
+        Entry::Gate { gate, on } => gate_numbers(gate, on),
+    }
+}
+
+fn entries_are(entries: &[Entry], expected: &[Entry]) -> Result<(), Fail> {
+    check_eq(entries.len(), expected.len())?;
+    for (pulse, (entry, want)) in entries.iter().zip(expected.iter()).enumerate() {
+        check_eq(numbers(*entry), numbers(*want)).note(pulse)?;
+    }
+    Ok(())
+}
+
+#[rattlefmt::skip]
+const SHORT_JOURNAL: [Entry; 3] = [
+    Entry::Prepare { handle: 0, bit: false },
+    Entry::Read { handle: 0, outcome: true },
+    Entry::Gate { gate: Gate::T, on: [0, 0, 0] },
+];
+
 #[test]
 fn tape() -> Result<(), Fail> {
     let mut entries = [UNTOUCHED; 9];
     on_tape(2, 2, &mut entries, TAPE)?;
-    check_eq(entries, JOURNAL)?;
+    entries_are(&entries, &JOURNAL)?;
     let mut few = [UNTOUCHED; 3];
     on_tape(99, 32, &mut few, SHORT)?;
-    check_eq(
-        few,
-        [
-            Entry::Prepare {
-                handle: 0,
-                bit: false,
-            },
-            Entry::Read {
-                handle: 0,
-                outcome: true,
-            },
-            Entry::Gate {
-                gate: Gate::T,
-                on: [0, 0, 0],
-            },
-        ],
-    )
+    entries_are(&few, &SHORT_JOURNAL)
 }
 
 // A level of capacity 3 with 8 pulses: 43 before 44, 45 and 46, and 41 before it.
