@@ -1,5 +1,6 @@
 //! Runs two interpreters of the quantum lambda calculus over examples and generated programs, and compares all that can
 //! be seen of them: whole shots, faults of checked tables, and where the next step of any cells is.
+#![tactic(auto)]
 
 mod compare;
 mod examples;

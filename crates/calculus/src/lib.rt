@@ -1,4 +1,5 @@
 //! The letters and cells of the quantum lambda calculus, its gates and its limits.
+#![tactic(auto)]
 
 mod cells;
 mod gates;

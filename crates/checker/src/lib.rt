@@ -1,4 +1,5 @@
 //! The checker: cells to an accepted program, or a fault with its number and its cell.
+#![tactic(auto)]
 
 mod accepting;
 mod faults;

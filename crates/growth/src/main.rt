@@ -1,5 +1,6 @@
 //! Shows how checks and steps grow with the size of a term: the time for each at doubled sizes, and its ratio to the size before.
 //! The times go to standard error, since they differ from run to run.
+#![tactic(auto)]
 
 use anyhow::anyhow;
 use calculus::{TermCell, TypeCell};

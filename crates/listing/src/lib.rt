@@ -1,4 +1,5 @@
 //! One shot of a stored program, from its text to the listing of what happened.
+#![tactic(auto)]
 
 mod lines;
 mod shots;

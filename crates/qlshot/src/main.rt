@@ -1,4 +1,5 @@
 //! Reads a stored program from standard input, plays its shot and prints the listing.
+#![tactic(auto)]
 
 ghost use Rattle.std.specs.Prelude.{◌≤◌, length, IfOk};
 

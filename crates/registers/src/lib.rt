@@ -1,4 +1,5 @@
 //! Registers of qubits: the calls that every register has, with their meaning, and three registers.
+#![tactic(auto)]
 
 mod cap;
 mod fault;

@@ -1,4 +1,5 @@
 //! Programs to run interpreters on: drawn at random by the typing rules, damaged, and at the limits.
+#![tactic(auto)]
 
 mod any;
 mod damage;

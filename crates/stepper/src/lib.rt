@@ -1,4 +1,5 @@
 //! Steps of running terms, on their cells: which rule applies where, the next term, and the qubits that a term names.
+#![tactic(auto)]
 
 mod finder;
 mod naming;

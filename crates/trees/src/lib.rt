@@ -1,4 +1,5 @@
 //! Prefix trees over a slice of cells of any kind: a tree is a cell followed by the trees of its parts.
+#![tactic(auto)]
 
 ghost use Rattle.std.specs.Prelude.{◌≡◌, ℕ, ◌-◌, ◌≤◌, Bool, ◌++◌, length, take, drop};
 ghost use Rattle.trees.specs.Failing.{first_failing};
@@ -16,7 +17,7 @@ pub trait Cell: Copy {
 
 /// One past the tree that starts at `at`, or nothing where the cells end first.
 pub fn reach<T: Cell>(cells: &[T], at: usize) -> Option<usize>
-    ensures { result ≡ ends arity 1 (drop at cells.now) at }
+    ensures { result ≡ ends T.arity 1 (drop at cells.now) at }
 {
     let mut due: usize = 1;
     let mut end = at;
@@ -33,7 +34,7 @@ pub fn reach<T: Cell>(cells: &[T], at: usize) -> Option<usize>
 /// Copies the tree at `at` to the front of a table, whose rest stays, and answers its number of cells;
 /// nothing is copied where the cells end first or the table is too short.
 pub fn copy<T: Cell>(cells: &[T], at: usize, to: &mut [T]) -> Option<usize>
-    ensures answer { result ≡ copied_count (ends arity 1 (drop at cells.now) at) at (length to.old) }
+    ensures answer { result ≡ copied_count (ends T.arity 1 (drop at cells.now) at) at (length to.old) }
     ensures table { to.new ≡ fronted result (drop at cells.now) to.old }
 {
     match reach(cells, at) {
@@ -55,7 +56,7 @@ fn copy_range<T: Copy>(from: &[T], start: usize, end: usize, to: &mut [T])
 
 /// How many whole trees the cells are, one after the other, or nothing where one is unfinished.
 pub fn count<T: Cell>(cells: &[T]) -> Option<usize>
-    ensures { result ≡ counted arity cells.now }
+    ensures { result ≡ counted T.arity cells.now }
 {
     let mut trees: usize = 0;
     for i in (0..cells.len()).rev() {
@@ -79,7 +80,7 @@ pub trait Test<T> {
 
 /// The place of the first cell that fails a test.
 pub fn first_failing<T: Copy, F: Test<T>>(test: &F, cells: &[T]) -> Option<usize>
-    ensures { result ≡ first_failing (holds test.now) cells.now 0 }
+    ensures { result ≡ first_failing (F.holds test.now) cells.now 0 }
 {
     for i in 0..cells.len() {
         if !test.passes(cells[i]) {
@@ -91,7 +92,7 @@ pub fn first_failing<T: Copy, F: Test<T>>(test: &F, cells: &[T]) -> Option<usize
 
 /// How far trees reach follows the same laws for cells of every kind.
 pub fn reach_is_lawful<T: Cell>() -> u8
-    ensures { ReachLaws arity }
+    ensures { ReachLaws T.arity }
 {
     0
 }

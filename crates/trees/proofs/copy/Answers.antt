@@ -2,13 +2,13 @@ use Rattle.std.proofs.Common.{arith}
 use Rattle.trees.proofs.Ends.{end_within}
 use Rattle.trees.proofs.copy.Goals as goal
 
-pub overflow-sub-end : goal.overflow-sub-end
-overflow-sub-end g c = (end_within g.T.Cell.arity c.args.cells.now c.args.at c.in-Some.end c.in-Some.ensures).0
+pub overflow_sub-end : goal.overflow_sub-end
+overflow_sub-end g c = (end_within g.T.Cell.arity c.args.cells.now c.args.at c.in-Some.end c.in-Some.ensures).0
 
-pub copy-range-requires : goal.copy-range-requires
-copy-range-requires g c =
+pub copy_range-requires : goal.copy_range-requires
+copy_range-requires g c =
     let w = end_within g.T.Cell.arity c.args.cells.now c.args.at c.in-Some.end c.in-Some.ensures in
     omega arith
 
-pub overflow-sub-result : goal.overflow-sub-result
-overflow-sub-result g c = (end_within g.T.Cell.arity c.args.cells.now c.args.at c.in-Some.end c.in-Some.ensures).0
+pub overflow_sub-result : goal.overflow_sub-result
+overflow_sub-result g c = (end_within g.T.Cell.arity c.args.cells.now c.args.at c.in-Some.end c.in-Some.ensures).0

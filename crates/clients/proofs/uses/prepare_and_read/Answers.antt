@@ -5,7 +5,7 @@ pub returns : goal.returns
 returns g c =
     let r = g.R.Register in
     let s = c.args.register.now in
-    let p = c.in-ok-handle.ensures in
+    let p = c.in_ok-handle.ensures in
     let q = c.read-outcome.ensures in
-    let l = c.in-ok-let-go.ensures in
-    uses r.changes r.meaning r.depth r.outcome s (r.fresh s) c.in-ok-handle.handle c.args.bit (r.owed s) p.answer p.state l.state c.read-outcome.result q.answer q.state
+    let l = c.in_ok-let_go.ensures in
+    uses r.changes r.meaning r.depth r.outcome s (r.fresh s) c.in_ok-handle.handle c.args.bit (r.owed s) p.answer p.state l.state c.read-outcome.result q.answer q.state

@@ -6,18 +6,18 @@ use Rattle.reader.proofs.lines.record_of.Goals as goal
 pub returns-then-eq : goal.returns-then-eq
 returns-then-eq c = the_header c.args.line.now c.eq.result c.eq.ensures c.if-eq.true
 
-pub returns-in-default : goal.returns-in-default
-returns-in-default c = by_fields c.args.line.now c.eq.result c.eq.ensures c.if-eq.false c.in-default.ensures.parts refl
+pub returns-in_default : goal.returns-in_default
+returns-in_default c = by_fields c.args.line.now c.eq.result c.eq.ensures c.if-eq.false c.in_default.ensures.parts refl
 
-pub returns-in-default-parted : goal.returns-in-default-parted
-returns-in-default-parted c =
-    let parts = then_cut c.in-Some.ensures.parts c.in-default-parted.ensures.parts in
+pub returns-in_default-parted : goal.returns-in_default-parted
+returns-in_default-parted c =
+    let parts = then_cut c.in-Some.ensures.parts c.in_default-parted.ensures.parts in
     by_fields c.args.line.now c.eq.result c.eq.ensures c.if-eq.false parts c.lettered.ensures
 
-pub returns-in-default-parted-2 : goal.returns-in-default-parted-2
-returns-in-default-parted-2 c =
-    let parts = then_cut c.in-Some.ensures.parts (then_cut c.in-Some-parted.ensures.parts c.in-default-parted-2.ensures.parts) in
-    by_fields c.args.line.now c.eq.result c.eq.ensures c.if-eq.false parts c.lettered-in-default-parted-2.ensures
+pub returns-in_default-parted-2 : goal.returns-in_default-parted-2
+returns-in_default-parted-2 c =
+    let parts = then_cut c.in-Some.ensures.parts (then_cut c.in-Some-parted.ensures.parts c.in_default-parted-2.ensures.parts) in
+    by_fields c.args.line.now c.eq.result c.eq.ensures c.if-eq.false parts c.lettered-in_default-parted-2.ensures
 
 pub returns-in-None : goal.returns-in-None
 returns-in-None c =

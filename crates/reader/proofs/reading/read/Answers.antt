@@ -11,7 +11,7 @@ loop-line-preserved c =
     let t = c.in-Ok.ensures in
     let s = c.in-Some.ensures in
     let step = stepped l.rest.now c.in-Some.line.now c.in-Some.after.now l.due l.place l.types l.terms s.parts in
-    (omega arith, omega (arith, s.shorter), step (Ok c.in-Ok.next) c.take-line.new.types c.take-line.new.terms t.answer t.types t.terms ∙ l.invariant.2)
+    (omega arith, omega (arith, s.shorter), step (Ok c.in-Ok.next) c.take_line.new.types c.take_line.new.terms t.answer t.types t.terms ∙ l.invariant.2)
 
 pub returns-in-Err : goal.returns-in-Err
 returns-in-Err c =
@@ -20,8 +20,8 @@ returns-in-Err c =
     let s = c.in-Some.ensures in
     let step = stepped l.rest.now c.in-Some.line.now c.in-Some.after.now l.due l.place l.types l.terms s.parts in
     let e =
-    ap (λ (f : ReadFault). left (Err f) c.take-line.new.types c.take-line.new.terms) c.at.ensures
-    ∙ step (Err c.in-Err.reason) c.take-line.new.types c.take-line.new.terms t.answer t.types t.terms ∙ l.invariant.2 in
+    ap (λ (f : ReadFault). left (Err f) c.take_line.new.types c.take_line.new.terms) c.at.ensures
+    ∙ step (Err c.in-Err.reason) c.take_line.new.types c.take_line.new.terms t.answer t.types t.terms ∙ l.invariant.2 in
     record {
       answer = ap (λ (o : Outcome). o.answer) e;
       types = ap (λ (o : Outcome). o.types) e;
@@ -35,7 +35,7 @@ returns c =
     let l = c.loop-line in
     let e =
     ap (λ r. left r l.types l.terms) c.close.ensures
-    ∙ ends l.rest.now l.due l.place l.types l.terms c.in-default.ensures.parts ∙ l.invariant.2 in
+    ∙ ends l.rest.now l.due l.place l.types l.terms c.in_default.ensures.parts ∙ l.invariant.2 in
     record {
       answer = ap (λ (o : Outcome). o.answer) e;
       types = ap (λ (o : Outcome). o.types) e;

@@ -1,4 +1,4 @@
 use Rattle.samples.proofs.any.+any_kind.Given as goal
 
-abbrev pub decreases-any-kind : goal.decreases-any-kind
-decreases-any-kind l = l.depth
+abbrev pub decreases-any_kind : goal.decreases-any_kind
+decreases-any_kind l = l.depth

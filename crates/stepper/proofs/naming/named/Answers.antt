@@ -10,7 +10,7 @@ loop-i-init c = (refl, λ h l. get_or-replicate 32 h false false l ∙ sym (ap (
 
 pub loop-i-preserved : goal.loop-i-preserved
 loop-i-preserved c =
-    (c.loop-i.invariant.0, λ h l. c.loop-i.invariant.1 h l ∙ sym (names_before c.args.cells.now c.loop-i.i None c.loop-i-test.true (omega arith) c.in-default.ensures h))
+    (c.loop-i.invariant.0, λ h l. c.loop-i.invariant.1 h l ∙ sym (names_before c.args.cells.now c.loop-i.i None c.loop-i-test.true (omega arith) c.in_default.ensures h))
 
 pub loop-i-preserved-in-Some : goal.loop-i-preserved-in-Some
 loop-i-preserved-in-Some c =

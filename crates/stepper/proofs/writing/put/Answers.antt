@@ -11,5 +11,5 @@ returns-then-end-table c =
     let room = le-leb (c.args.len + length cs) (length t) (omega arith) in
     record {
       answer = sym (simp few);
-      table = written_at t cs c.copy-from-slice.new.self c.args.len _ c.copy-from-slice.ensures.after (omega arith) ∙ sym (simp (few, room));
+      table = written_at t cs c.copy_from_slice.new.self c.args.len _ c.copy_from_slice.ensures.after (omega arith) ∙ sym (simp (few, room));
     }
