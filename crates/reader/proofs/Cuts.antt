@@ -1,6 +1,6 @@
 -- Pieces of a text, byte by byte.
 use Rattle.std.proofs.Common.{◌≡◌, ℕ, ◌+◌, ◌-◌, ◌<◌, ◌≤◌, Bool, true, false, cond, eqb, List, [], ◌∷◌, ◌++◌, length, get_or, take, drop, sym, refl, ap, ◌∙◌, append_assoc}
-use native.Mathlib.Nat.{sub_zero}
+use native.Mathlib.Nat.{sub-zero}
 use Rattle.std.proofs.lemmas.List.{append-nil, take_more, take_rest, take_all, at_drop_more, at_drop_all}
 use Rattle.std.proofs.lemmas.Bool.{cond-true, cond-false, eq-eqb, ne_eqb}
 use Rattle.reader.specs.Pieces.{longer, pieces}
@@ -38,7 +38,7 @@ module _ (mark : ℕ) where
         at_drop_more (λ ys. ahead (take i xs) (pieces mark ys)) xs i 0 l
         ∙ ap (ahead (take i xs)) (at_mark (get_or xs i 0) (drop (i + 1) xs) e)
         ∙ ap (λ ys. ys ∷ pieces mark (drop (i + 1) xs)) (append-nil (take i xs))
-        ∙ ap (λ n. take n xs ∷ pieces mark (drop (i + 1) xs)) (sym (sub_zero i))
+        ∙ ap (λ n. take n xs ∷ pieces mark (drop (i + 1) xs)) (sym (sub-zero i))
         ∙ ap (λ ys. take (i - 0) xs ∷ pieces mark ys) (sym (take_rest xs (i + 1)))
 
     pub runs_out : length xs ≤ i → ahead (take i xs) (pieces mark (drop i xs)) ≡ xs ∷ []

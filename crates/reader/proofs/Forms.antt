@@ -1,6 +1,5 @@
 -- What a line is, by the tests on its first field and by its pieces.
 use Rattle.std.proofs.Common.{◌≡◌, ℕ, Bool, true, false, List, ◌∷◌, Decides, sym, ap, ◌∙◌, rules}
-use Rattle.std.specs.Cmp.Lexicographic.{Matches}
 use Rattle.std.specs.Str.{bytes_eq}
 use Rattle.std.proofs.lemmas.Slice.Eq.{slice_eq-Decides, bytes_eq-Decides}
 use Rattle.std.proofs.lemmas.Bool.{cond-true, cond-false}
@@ -9,15 +8,9 @@ use Rattle.reader.specs.Pieces.{pieces}
 use Rattle.reader.proofs.Cuts.{some_piece}
 use Rattle.std.proofs.lemmas.Bool.Decides.{Decides-eqb}
 
-pub same_from : (xs ys : List ℕ) (r : Bool) → Matches (λ (a b : ℕ) (t : Bool). Decides t (a ≡ b)) xs ys r → r ≡ bytes_eq xs ys
-same_from xs ys r m = let h = slice_eq-Decides Decides-eqb xs ys r m in search (rules, bytes_eq-Decides)
-
-pub the_header : (line : List ℕ) (r : Bool) → Matches (λ (a b : ℕ) (t : Bool). Decides t (a ≡ b)) line header_line r → r ≡ true → header ≡ said line
-the_header line r m e = sym (cond-true _ _ _ (sym (same_from line header_line r m) ∙ e))
-
-pub by_fields : (line : List ℕ) (r : Bool) {fs : List (List ℕ)} {s : Said} → Matches (λ (a b : ℕ) (t : Bool). Decides t (a ≡ b)) line header_line r → r ≡ false
+pub by_fields : (line : List ℕ) (r : Bool) {fs : List (List ℕ)} {s : Said} → r ≡ bytes_eq line header_line → r ≡ false
     → pieces 9 line ≡ fs → s ≡ said_fields fs → s ≡ said line
-by_fields line r m e p h = h ∙ ap said_fields (sym p) ∙ sym (cond-false _ _ _ (sym (same_from line header_line r m) ∙ e))
+by_fields line r m e p h = h ∙ ap said_fields (sym p) ∙ sym (cond-false _ _ _ (sym m ∙ e))
 
 pub too_many : (l f g h : List ℕ) (rest : List ℕ) → other ≡ said_fields (l ∷ f ∷ g ∷ h ∷ pieces 9 rest)
 too_many l f g h rest = let (p, ps, e) = some_piece 9 rest in ap (λ more. said_fields (l ∷ f ∷ g ∷ h ∷ more)) (sym e)

@@ -27,7 +27,7 @@ fn lettered<'a>(field: &[u8], letter: &[u8], line: Record<'a>) -> Record<'a>
 pub fn record_of(line: &[u8]) -> Record<'_>
     ensures { said_by result ≡ said line.now }
 {
-    if line == b"QL\t1" {
+    if line == b"QL\t1".as_slice() {
         return Record::Header;
     }
     let Some((letter, rest)) = parted(line, b'\t') else {

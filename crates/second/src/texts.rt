@@ -115,7 +115,7 @@ fn end_line(types: &[u8], terms: &[u8], line: usize) -> Result<Section, Halt> {
 }
 
 fn header_line(bytes: &[u8]) -> Result<Section, Halt> {
-    if bytes == b"QL\t1" {
+    if bytes == b"QL\t1".as_slice() {
         Ok(Section::Types)
     } else {
         fault(11, 1)
@@ -146,13 +146,13 @@ fn read_line(
         return fault(12, line);
     }
     let first = &fields[0];
-    if in_types && fields.len() == 2 && first.as_slice() == b"T" {
+    if in_types && fields.len() == 2 && first.as_slice() == b"T".as_slice() {
         return type_line(stored, &fields[1], line);
     }
-    if fields.len() == 4 && first.as_slice() == b"M" {
+    if fields.len() == 4 && first.as_slice() == b"M".as_slice() {
         return term_line(stored, &fields[1], &fields[2], &fields[3], line);
     }
-    if fields.len() == 3 && first.as_slice() == b"E" {
+    if fields.len() == 3 && first.as_slice() == b"E".as_slice() {
         return end_line(&fields[1], &fields[2], line);
     }
     fault(12, line)

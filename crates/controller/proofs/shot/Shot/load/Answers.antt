@@ -10,4 +10,4 @@ invariant_of-self g c =
     let root = c.if-terms-lt1.root in
     let few = copied_few c.copy.result (ends arity 1 (drop 0 c.terms-terms.result.now) 0) 0 (length s.cells) c.copy.ensures.answer in
     let kinds_few = copied_few c.copy-2.result (ends kind_arity 1 (drop root c.types.result.now) root) root (length s.kinds) c.copy-2.ensures.answer in
-    (omega arith, (omega arith, (omega arith, (omega arith, tt))))
+    record { wide = omega arith; few = omega arith; kinds_wide = omega arith; kinds_few = omega arith }
