@@ -64,17 +64,22 @@ pub fn holds<R: Register>(
     register: &R,
     live: u32,
     pulses: u64,
+    row: usize,
 ) -> Result<(), Fail> {
     let mut count: usize = 0;
     for handle in 0..=255u8 {
         let due = handle < 32 && (live >> (handle % 32)) & 1 == 1;
-        assert_eq!(rt; register.is_live(handle), due, "handle {handle}");
+        assert_eq!(rt;
+            register.is_live(handle),
+            due,
+            "handle {handle}, row {row}"
+        );
         if due {
             count = count.wrapping_add(1);
         }
     }
-    assert_eq!(rt; register.live_count(), count);
-    assert_eq!(rt; register.pulses(), pulses, "pulses left");
+    assert_eq!(rt; register.live_count(), count, "live, row {row}");
+    assert_eq!(rt; register.pulses(), pulses, "pulses left, row {row}");
     Ok(())
 }
 
@@ -83,7 +88,7 @@ pub fn asks<R: Register>(rt: &impl Abort, register: &mut R, table: &[Asked]) -> 
     let capacity = register.capacity();
     for (i, Asked(ask, want, live, pulses)) in table.iter().enumerate() {
         assert_eq!(rt; tell(register, *ask), *want, "call {i}");
-        holds(rt, register, *live, *pulses).note(format_args!("after call {i}"))?;
+        holds(rt, register, *live, *pulses, i)?;
         assert_eq!(rt; register.capacity(), capacity);
     }
     Ok(())

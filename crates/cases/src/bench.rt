@@ -159,10 +159,12 @@ fn same<T: Copy + Debug + PartialEq + Drop>(
     rt: &impl Abort,
     got: &[T],
     due: &[T],
+    table: &str,
+    call: usize,
 ) -> Result<(), Fail> {
-    assert!(rt; got.len() == due.len());
+    assert_eq!(rt; got.len(), due.len(), "{table} table, call {call}");
     for i in 0..got.len() {
-        assert_eq!(rt; got[i], due[i], "cell {i}");
+        assert_eq!(rt; got[i], due[i], "{table} table, call {call}, cell {i}");
     }
     Ok(())
 }
@@ -183,15 +185,15 @@ pub fn plays<R: Register>(
             "call {i}"
         );
         expect(heap, *call, *front, &mut due)?;
-        same(rt, tables.work.as_slice(), due.work.as_slice()).note(format_args!(
-            "work table, call {i}"
-        ))?;
-        same(rt, tables.value.as_slice(), due.value.as_slice()).note(format_args!(
-            "value table, call {i}"
-        ))?;
-        same(rt, tables.types.as_slice(), due.types.as_slice()).note(format_args!(
-            "type table, call {i}"
-        ))?;
+        same(rt, tables.work.as_slice(), due.work.as_slice(), "work", i)?;
+        same(
+            rt,
+            tables.value.as_slice(),
+            due.value.as_slice(),
+            "value",
+            i,
+        )?;
+        same(rt, tables.types.as_slice(), due.types.as_slice(), "type", i)?;
         assert_eq!(rt; controller.register().live_count(), *live, "live, call {i}");
         assert_eq!(rt; controller.register().pulses(), *pulses, "pulses, call {i}");
     }

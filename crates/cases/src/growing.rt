@@ -77,30 +77,37 @@ fn grows(
     heap: Global,
     controller: &mut Controller<Level>,
     due: &str,
+    case: &str,
 ) -> Result<(), Fail> {
     let due = terms(heap, due)?;
     let mut work = [MARK; 1024];
-    assert_eq!(rt; controller.step(&mut work)?, due.len());
-    starts_with(rt, &work, due.as_slice(), MARK)?;
+    assert_eq!(rt; controller.step(&mut work)?, due.len(), "{case}");
+    starts_with(rt, &work, due.as_slice(), MARK, case)?;
     let mut value = [MARK; 1024];
     let counts = controller.collect(&mut value, &mut [TypeCell { kind: 'z' }; 64])?;
-    assert_eq!(rt; counts.0, due.len());
-    starts_with(rt, &value, due.as_slice(), MARK)
+    assert_eq!(rt; counts.0, due.len(), "{case}");
+    starts_with(rt, &value, due.as_slice(), MARK, case)
 }
 
 // The step is refused, and nothing is written.
-fn is_too_long(rt: &impl Abort, controller: &mut Controller<Level>) -> Result<(), Fail> {
+fn is_too_long(
+    rt: &impl Abort,
+    controller: &mut Controller<Level>,
+    case: &str,
+) -> Result<(), Fail> {
     let mut work = [MARK; 1024];
     match controller.step(&mut work) {
         Ok(_) => return Err(Fail::new("the step is accepted")),
-        Err(refusal) => assert_eq!(rt; (refusal.fault.number(), refusal.place), (37, 0)),
+        Err(refusal) => assert_eq!(rt; (refusal.fault.number(), refusal.place), (37, 0), "{case}"),
     }
-    starts_with(rt, &work, &[], MARK)?;
-    assert_eq!(rt; controller.register().pulses(), 3);
+    starts_with(rt, &work, &[], MARK, case)?;
+    assert_eq!(rt; controller.register().pulses(), 3, "{case}");
     Ok(())
 }
 
 fn next_term(rt: &impl Abort, heap: Global, case: Size) -> Result<(), Fail> {
+    let label = format!(in heap; "{} cells", case.next)?;
+    let label = label.as_str();
     let (types, text) = program(heap, case.identities, case.zeros)?;
     let types = kinds(heap, types.as_str())?;
     let text = terms(heap, text.as_str())?;
@@ -108,20 +115,24 @@ fn next_term(rt: &impl Abort, heap: Global, case: Size) -> Result<(), Fail> {
     let text = text.as_slice();
     check_program(types, text)?;
     let mut controller = Controller::new(Level::new(8, 3));
-    assert_eq!(rt; controller.load(&Accepted::new(types, text))?, case.loaded);
+    assert_eq!(rt;
+        controller.load(&Accepted::new(types, text))?,
+        case.loaded,
+        "{label}"
+    );
     let due = grown(heap, case.identities, case.zeros)?;
-    assert_eq!(rt; terms(heap, due.as_str())?.len(), case.next);
+    assert_eq!(rt; terms(heap, due.as_str())?.len(), case.next, "{label}");
     if case.next <= 1024 {
-        return grows(rt, heap, &mut controller, due.as_str());
+        return grows(rt, heap, &mut controller, due.as_str(), label);
     }
-    is_too_long(rt, &mut controller)?;
-    is_too_long(rt, &mut controller)
+    is_too_long(rt, &mut controller, label)?;
+    is_too_long(rt, &mut controller, label)
 }
 
 #[test]
 fn next_terms(rt: HostRuntime) -> Result<(), Fail> {
     for case in SIZES {
-        next_term(&rt, rt.alloc(), *case).note(format_args!("{} cells", case.next))?;
+        next_term(&rt, rt.alloc(), *case)?;
     }
     Ok(())
 }

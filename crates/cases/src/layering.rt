@@ -162,7 +162,7 @@ fn next_handles(rt: HostRuntime) -> Result<(), Fail> {
     assert_eq!(rt; level.prepare(true)?, 0);
     assert_eq!(rt; level.prepare(true)?, 1);
     let mut capped = Cap::new(level, 1);
-    holds(&rt, &capped, 0, 3)?;
+    holds(&rt, &capped, 0, 3, 0)?;
     assert_eq!(rt; capped.prepare(true)?, 2);
-    holds(&rt, &capped, 0b100, 2)
+    holds(&rt, &capped, 0b100, 2, 1)
 }

@@ -76,14 +76,15 @@ pub fn starts_with<T: Copy + Debug + PartialEq + Drop>(
     table: &[T],
     front: &[T],
     mark: T,
+    case: &str,
 ) -> Result<(), Fail> {
     assert!(rt;
         front.len() <= table.len(),
-        "the table is too short for the cells that are due"
+        "{case}: the table is too short for the cells that are due"
     );
     for i in 0..table.len() {
         let want = if i < front.len() { front[i] } else { mark };
-        assert_eq!(rt; table[i], want, "cell {i}");
+        assert_eq!(rt; table[i], want, "{case}: cell {i}");
     }
     Ok(())
 }

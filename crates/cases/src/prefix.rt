@@ -78,7 +78,7 @@ fn examine<T: Cell + Debug + PartialEq + Drop, F: Test<T>>(
         let written = want.unwrap_or(0).min(cells.len());
         let start = case.at.min(cells.len() - written);
         let front = &cells[start..start + written];
-        starts_with(rt, table, front, mark).note(case.text)?;
+        starts_with(rt, table, front, mark, case.text)?;
     }
     Ok(())
 }

@@ -37,8 +37,8 @@ fn reads(
         Err(fault) => Err((fault.number(), fault.line)),
     };
     assert_eq!(rt; got, want, "{}", text);
-    starts_with(rt, &types, kinds(heap, left.0)?.as_slice(), KIND_MARK).note(text)?;
-    starts_with(rt, &cells, terms(heap, left.1)?.as_slice(), MARK).note(text)
+    starts_with(rt, &types, kinds(heap, left.0)?.as_slice(), KIND_MARK, text)?;
+    starts_with(rt, &cells, terms(heap, left.1)?.as_slice(), MARK, text)
 }
 
 #[rattlefmt::skip]

@@ -204,7 +204,7 @@ fn level(rt: HostRuntime) -> Result<(), Fail> {
                 assert_eq!(rt; level.read(place)?, due, "{gate:?} of {input}");
                 assert_eq!(rt; level.read(place)?, due, "read again");
             }
-            holds(&rt, &level, 0b111, 90)?;
+            holds(&rt, &level, 0b111, 90, input as usize)?;
         }
     }
     let level = Level::new(3, 1);
