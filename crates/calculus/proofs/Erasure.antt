@@ -1,7 +1,7 @@
 -- Derivations without their claims.
-use Rattle.std.proofs.Common.{◌≡◌, None, refl}
+use Rattle.std.proofs.Common.{refl}
 use Rattle.calculus.specs.Types.{Ty}
-use Rattle.calculus.specs.Terms.{Var, held, Term, var, const, star, lam, app, pair, if_then_else, let_pair, erased, Free, free_var, free_lam, free_fun, free_arg, free_left, free_right, free_test, free_then, free_else, free_pair, free_body}
+use Rattle.calculus.specs.Terms.{Var, Term, var, const, star, lam, app, pair, if_then_else, let_pair, erased, Free, free_var, free_lam, free_fun, free_arg, free_left, free_right, free_test, free_then, free_else, free_pair, free_body}
 use Rattle.calculus.specs.Contexts.{Context, empty}
 use Rattle.calculus.specs.Typing.{Derives, Claimed, Unclaimed, rule_variable, rule_constant, rule_unit, rule_function, rule_duplicable_function, rule_application, rule_pair, rule_condition, rule_let}
 use Rattle.calculus.specs.Erasure.{ErasureLaws}

@@ -1,5 +1,5 @@
 -- Terms read back from their cells.
-use Rattle.std.proofs.Common.{◌≡◌, ℕ, zero, suc, ◌+◌, ◌-◌, ◌<◌, ◌≤◌, Bool, true, false, cond, T, eqb, ltb, ◌⊎◌, List, [], ◌∷◌, ◌++◌, length, drop, sym, refl, ap, ◌∙◌, subst, ap₂, inl, inr, arith}
+use Rattle.std.proofs.Common.{◌≡◌, ℕ, zero, suc, ◌+◌, ◌-◌, ◌<◌, ◌≤◌, Bool, true, false, cond, T, eqb, ◌⊎◌, List, [], ◌∷◌, ◌++◌, length, drop, sym, refl, ap, ◌∙◌, ap₂, inl, inr, arith}
 use Rattle.std.specs.List.{flat_map}
 use Rattle.std.proofs.lemmas.Bool.{eqb-true, ltb-true}
 use Rattle.std.proofs.lemmas.List.{append_assoc, length-append}
@@ -10,9 +10,9 @@ use Rattle.calculus.specs.declared.gates.Gate.TheVariants.{H, X, Z, S, Cnot, Swa
 use Rattle.calculus.specs.declared.gates.Gate.TheVariants.{T as gate_t}
 use Rattle.calculus.specs.Gates.{number_of, gate_of}
 use Rattle.calculus.specs.Letters.{Letter, at_v, at_q, at_g, at_0, at_1, at_m, at_n, at_s, at_l, at_a, at_p, at_d, at_i, other, letter, parts_of, arguments_of, allowed, arity}
-use Rattle.calculus.specs.Terms.{Const, bit_of, meas, new, gate, Var, bound, held, Term, var, const, star, lam, app, pair, if_then_else, let_pair, size}
+use Rattle.calculus.specs.Terms.{bit_of, meas, new, gate, bound, held, Term, var, const, star, lam, app, pair, if_then_else, let_pair, size}
 use Rattle.calculus.specs.Cells.{cell_of, placed_cells}
-use Rattle.calculus.specs.Reading.{top, rest, or_toffoli, no_term, read_term, terms_of, term_at, TermsStand}
+use Rattle.calculus.specs.Reading.{top, or_toffoli, no_term, read_term, terms_of, term_at, TermsStand}
 use Rattle.calculus.proofs.Reading as reading
 
 gate_back : (u : Gate) → or_toffoli (gate_of (number_of u)) ≡ u

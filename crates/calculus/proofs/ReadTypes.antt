@@ -1,14 +1,14 @@
 -- Types read back from their cells.
-use Rattle.std.proofs.Common.{◌≡◌, ℕ, zero, suc, ◌+◌, ◌-◌, ◌<◌, ◌≤◌, Bool, true, false, cond, T, eqb, List, [], ◌∷◌, ◌++◌, length, drop, is_some, Some, None, Option, sym, refl, ap, ◌∙◌, subst, arith}
+use Rattle.std.proofs.Common.{◌≡◌, ℕ, ◌+◌, ◌-◌, ◌<◌, ◌≤◌, true, false, cond, T, eqb, List, [], ◌∷◌, ◌++◌, length, drop, is_some, Some, None, Option, sym, refl, ap, ◌∙◌, subst, arith}
 use Rattle.std.specs.List.{flat_map}
 use Rattle.std.proofs.lemmas.Bool.{eqb-true}
-use Rattle.std.proofs.lemmas.List.{append_assoc, append-nil}
+use Rattle.std.proofs.lemmas.List.{append_assoc}
 use Rattle.trees.specs.Whole.{height}
 use Rattle.calculus.specs.declared.cells.TypeCell.{TypeCell}
 use Rattle.calculus.specs.Types.{Ty, bit, qbit, unit, bang, arrow, tensor}
 use Rattle.calculus.specs.Letters.{known_kind, kind_arity}
 use Rattle.calculus.specs.Cells.{type_cells}
-use Rattle.calculus.specs.Reading.{top, rest, read_type, types_of, type_at, TypesStand}
+use Rattle.calculus.specs.Reading.{top, read_type, types_of, type_at, TypesStand}
 use Rattle.calculus.proofs.Reading as reading
 
 -- the cells of a type, read

@@ -2,7 +2,7 @@
 use Rattle.std.proofs.Common.{◌≡◌, ℕ, zero, suc, ◌-◌, ◌<◌, ◌≤◌, false, ltb, List, [], ◌∷◌, Some, None, Option, sym, refl, ap, ◌∙◌, subst, ap₂, arith}
 use mathlib.Core.Path.{fun_ext}
 use Rattle.calculus.specs.Types.{Duplicable, Ty, bang, arrow, bangs, Sub}
-use Rattle.calculus.specs.Terms.{Var, bound, held, under, var, const, star, lam, app, pair, if_then_else, let_pair, Running, Free, free_lam}
+use Rattle.calculus.specs.Terms.{Var, bound, held, var, const, star, lam, app, pair, if_then_else, let_pair, Running, Free, free_lam}
 use Rattle.calculus.specs.Contexts.{Context, extended, Shared, to_left, to_right, to_both, Split, DuplicableAt}
 use Rattle.calculus.specs.Typing.{Derives, Unclaimed, rule_variable, rule_constant, rule_unit, rule_function, rule_duplicable_function, rule_application, rule_pair, rule_condition, rule_let}
 use Rattle.calculus.specs.Reduction.{Value, raised, chosen, substituted}

@@ -1,5 +1,5 @@
 -- How types and terms are written as cells, in prefix order.
-use Rattle.std.specs.Prelude.{ℕ, Bool, true, false, List, [], ◌∷◌, ◌++◌, map}
+use Rattle.std.specs.Prelude.{ℕ, true, false, List, [], ◌∷◌, ◌++◌, map}
 use Rattle.calculus.specs.Types.{Ty, bit, qbit, unit, bang, arrow, tensor}
 use Rattle.calculus.specs.Gates.{number_of}
 use Rattle.calculus.specs.Terms.{Const, bit_of, meas, new, gate, Var, bound, held, Term, var, const, star, lam, app, pair, if_then_else, let_pair, reclaimed, Running}

@@ -1,7 +1,7 @@
 -- The lemmas on subtyping and typing that the safety theorems rest on, in the words of the calculus alone.
-use Rattle.std.specs.Prelude.{◌≡◌, ℕ, ◌≤◌, Bool, ◌⊎◌, List, [], ◌∷◌, Some, None, ◌≢◌}
+use Rattle.std.specs.Prelude.{◌≡◌, ℕ, ◌≤◌, Bool, ◌⊎◌, [], ◌∷◌, Some, None, ◌≢◌}
 use Rattle.calculus.specs.Types.{Ty, bit, qbit, bang, arrow, tensor, bangs, Sub}
-use Rattle.calculus.specs.Terms.{Const, bit_of, Var, bound, held, Term, const, lam, pair, Running, Free}
+use Rattle.calculus.specs.Terms.{Const, bit_of, Var, bound, held, const, lam, pair, Running, Free}
 use Rattle.calculus.specs.Contexts.{Context, extended, Split}
 use Rattle.calculus.specs.Typing.{Derives, Unclaimed}
 use Rattle.calculus.specs.Reduction.{Value, substituted}

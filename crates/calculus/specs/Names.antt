@@ -1,7 +1,7 @@
 -- The qubits that a running term names, and the ways through its branches.
-use Rattle.std.specs.Prelude.{◌≡◌, ℕ, zero, suc, ◌⊎◌, List, [], ◌∷◌, ◌++◌, Some, None, Option}
+use Rattle.std.specs.Prelude.{◌≡◌, ℕ, ◌⊎◌, List, [], ◌∷◌, ◌++◌, Some, None}
 use Rattle.calculus.specs.Types.{Ty, qbit}
-use Rattle.calculus.specs.Terms.{Var, bound, held, Const, Term, var, const, star, lam, app, pair, if_then_else, let_pair, Running, Free}
+use Rattle.calculus.specs.Terms.{bound, held, Const, var, const, star, lam, app, pair, if_then_else, let_pair, Running, Free}
 use Rattle.calculus.specs.Contexts.{Context}
 use Rattle.calculus.specs.Typing.{Derives, Unclaimed}
 

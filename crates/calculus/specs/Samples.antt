@@ -1,7 +1,7 @@
 -- Two terms that differ in one handle: the first is well-typed, the second has no type.
 use Rattle.calculus.specs.Types.{Ty, qbit, tensor}
 use Rattle.calculus.specs.declared.gates.Gate.TheVariants.{Cnot}
-use Rattle.calculus.specs.Terms.{gate, held, Term, var, const, app, pair, Running}
+use Rattle.calculus.specs.Terms.{gate, held, var, const, app, pair, Running}
 use Rattle.calculus.specs.Names.{WellTyped}
 
 abbrev pub controlled : Running → Running → Running

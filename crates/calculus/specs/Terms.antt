@@ -1,5 +1,5 @@
 -- Terms of the calculus. Every node carries a claim of the type C.
-use Rattle.std.specs.Prelude.{ℕ, zero, suc, ◌+◌, Bool}
+use Rattle.std.specs.Prelude.{ℕ, suc, ◌+◌, Bool}
 use Rattle.calculus.specs.declared.gates.Gate.{Gate}
 use Rattle.calculus.specs.declared.gates.Gate.TheVariants.{H, X, Z, S, T, Cnot, Swap, Toffoli}
 use Rattle.calculus.specs.Types.{Ty, bit, qbit, bang, arrow, tensor}

@@ -69,11 +69,7 @@ pub fn holds<R: Register>(
     let mut count: usize = 0;
     for handle in 0..=255u8 {
         let due = handle < 32 && (live >> (handle % 32)) & 1 == 1;
-        assert_eq!(rt;
-            register.is_live(handle),
-            due,
-            "handle {handle}, row {row}"
-        );
+        assert_eq!(rt; register.is_live(handle), due, "handle {handle}, row {row}");
         if due {
             count = count.wrapping_add(1);
         }

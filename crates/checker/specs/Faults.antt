@@ -1,5 +1,5 @@
 -- The faults of a program: their numbers and cells, and tests in a row.
-use Rattle.std.specs.Prelude.{ℕ, Bool, cond, Some, None, Ok, Err, Option, Result}
+use Rattle.std.specs.Prelude.{ℕ, Bool, cond, Some, None, Err, Option, Result}
 use Rattle.checker.specs.declared.faults.CheckFault.{CheckFault}
 use Rattle.checker.specs.declared.faults.CheckFault.TheVariants.{TooManyCells, BadCell, NotWhole, ClaimOutside, TooDeep, NoBinder, WrongClaim, UsedTwice, Captures}
 

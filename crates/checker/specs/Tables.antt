@@ -1,5 +1,5 @@
 -- The tests of whole tables, types before terms, each with the first cell at fault.
-use Rattle.std.specs.Prelude.{ℕ, ◌+◌, Bool, true, false, cond, not, ◌&&◌, List, [], ◌∷◌, length, is_some, is_ok, Some, None, Ok, Err, Option, ◌==◌, nat_le, nat_lt}
+use Rattle.std.specs.Prelude.{ℕ, Bool, not, ◌&&◌, List, length, is_some, is_ok, Some, None, Ok, Err, Option, ◌==◌, nat_le, nat_lt}
 use Rattle.trees.specs.Failing.{first_failing}
 use Rattle.trees.specs.Reach.{ends}
 use Rattle.trees.specs.Whole.{whole}

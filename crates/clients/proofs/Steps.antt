@@ -1,5 +1,5 @@
 -- What is left of a register when a qubit was prepared, read or not, and let go.
-use Rattle.std.proofs.Common.{◌≡◌, ℕ, ◌-◌, ◌<◌, Bool, true, false, List, length, get_or, set, Ok, Err, Result, sym, refl, ap, ◌∙◌, subst, inr, arith, MatchResult}
+use Rattle.std.proofs.Common.{◌≡◌, ℕ, ◌-◌, ◌<◌, Bool, true, false, get_or, set, Ok, Err, Result, sym, refl, ap, ◌∙◌, subst, inr, arith, MatchResult}
 use Rattle.std.proofs.lemmas.List.{set-set, set-get_or, get_or-set_same}
 use Rattle.std.proofs.lemmas.Bool.Decides.{nat_tests}
 use Rattle.registers.specs.declared.fault.RegisterReason.{RegisterReason}
@@ -8,7 +8,7 @@ use Rattle.registers.specs.declared.fault.RegisterFault.{RegisterFault}
 use Rattle.registers.specs.Meaning.{Meaning, Changes, Owed, Live, after_prepare, after_read, after_let_go}
 use Rattle.registers.specs.Answers.{prepare_answer, read_answer}
 use Rattle.registers.proofs.Accepted.{prepare_accepted, read_accepted}
-use Rattle.clients.specs.Uses.{spent, once_read, unread, WasRead, LastPulse, NotRead}
+use Rattle.clients.specs.Uses.{spent, WasRead, LastPulse, NotRead}
 
 read_refused : {C : Type 0} (m : Meaning C) (depth : RegisterReason → ℕ) (h : ℕ) (outcome : Bool) (f : RegisterFault)
     → Live m h → Err f ≡ read_answer m depth h outcome → (f.reason ≡ NoPulses) × (m.pulses ≡ 0)

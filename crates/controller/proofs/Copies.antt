@@ -1,5 +1,5 @@
 -- How many cells are copied.
-use Rattle.std.proofs.Common.{◌≡◌, ℕ, ◌-◌, ◌≤◌, cond, leb, Some, None, Option, unwrap_or, sym, subst, arith}
+use Rattle.std.proofs.Common.{◌≡◌, ℕ, ◌-◌, ◌≤◌, leb, Some, None, Option, unwrap_or, sym, subst, arith}
 use Rattle.std.proofs.lemmas.Bool.{cond_both, leb-true}
 use Rattle.trees.specs.Reach.{copied_count}
 

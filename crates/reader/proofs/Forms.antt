@@ -1,12 +1,10 @@
 -- What a line is, by the tests on its first field and by its pieces.
-use Rattle.std.proofs.Common.{◌≡◌, ℕ, Bool, true, false, List, ◌∷◌, Decides, sym, ap, ◌∙◌, rules}
+use Rattle.std.proofs.Common.{◌≡◌, ℕ, Bool, false, List, ◌∷◌, sym, ap, ◌∙◌}
 use Rattle.std.specs.Str.{bytes_eq}
-use Rattle.std.proofs.lemmas.Slice.Eq.{slice_eq-Decides, bytes_eq-Decides}
-use Rattle.std.proofs.lemmas.Bool.{cond-true, cond-false}
-use Rattle.reader.specs.Lines.{Said, header, other, header_line, said, said_fields}
+use Rattle.std.proofs.lemmas.Bool.{cond-false}
+use Rattle.reader.specs.Lines.{Said, other, header_line, said, said_fields}
 use Rattle.reader.specs.Pieces.{pieces}
 use Rattle.reader.proofs.Cuts.{some_piece}
-use Rattle.std.proofs.lemmas.Bool.Decides.{Decides-eqb}
 
 pub by_fields : (line : List ℕ) (r : Bool) {fs : List (List ℕ)} {s : Said} → r ≡ bytes_eq line header_line → r ≡ false
     → pieces 9 line ≡ fs → s ≡ said_fields fs → s ≡ said line

@@ -1,9 +1,9 @@
 -- A bit that is set is at its own handle, and the others are as they were.
-use Rattle.std.proofs.Common.{◌≡◌, ℕ, zero, suc, ◌<◌, Bool, true, false, cond, not, eqb, List, [], ◌∷◌, length, get_or, set, replicate, sym, refl, ap, ◌∙◌, ⊎_elim, arith}
+use Rattle.std.proofs.Common.{◌≡◌, ℕ, zero, suc, ◌<◌, Bool, false, cond, not, eqb, List, [], ◌∷◌, length, get_or, set, replicate, sym, refl, ap, ◌∙◌, arith}
 use lib.ListN.{length-replicate}
 use Rattle.std.proofs.lemmas.List.{length-set, get_or-set_same, get_or-set_other}
 use Rattle.std.proofs.lemmas.Bool.{cond_both, eqb-true, eqb-false}
-use Rattle.registers.specs.Bits.{zeros, bit_of}
+use Rattle.registers.specs.Bits.{bit_of}
 use Rattle.registers.specs.Put.{Deed, prepares, flips, reads, AllBelow32, after_deeds, put, LevelReadsWhatWasPut}
 
 set_at : (bits : List Bool) (h k : ℕ) (bit was : Bool) → h < length bits → bit_of bits k ≡ was → bit_of (set bits h bit) k ≡ cond (eqb h k) bit was

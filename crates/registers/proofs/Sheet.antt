@@ -1,5 +1,5 @@
 -- The answers of a register go through the rows of the sheet in the order of their numbers.
-use Rattle.std.proofs.Common.{◌≡◌, ℕ, zero, suc, ◌<◌, ◌≤◌, Bool, true, false, not, eqb, leb, ◌⊎◌, List, [], ◌∷◌, length, get_or, Result, sym, refl, ap, ◌∙◌, ⊎_elim, arith}
+use Rattle.std.proofs.Common.{◌≡◌, ℕ, zero, suc, ◌<◌, ◌≤◌, Bool, true, false, not, eqb, leb, List, [], ◌∷◌, length, get_or, Result, sym, refl, ap, ◌∙◌, ⊎_elim, arith}
 use Rattle.std.proofs.lemmas.Bool.{cond_both, eqb-true, eqb-false, eq-eqb, leb-true, leb-false, and_parts, and_cases, or_cases, or_right, not-true, not-false, both_ways, false≢true}
 use Rattle.calculus.specs.Gates.{operands_of}
 use Rattle.calculus.specs.declared.gates.Gate.{Gate}

@@ -1,4 +1,4 @@
-use Rattle.std.proofs.Common.{◌≡◌, ◌-◌, true, false, cond, eqb, length, get_or, Some, None, sym, refl, ap, ◌∙◌, arith, length-set}
+use Rattle.std.proofs.Common.{◌-◌, true, false, cond, eqb, length, get_or, Some, None, sym, refl, ap, ◌∙◌, arith, length-set}
 use Rattle.std.proofs.lemmas.List.{drop_all, get_or-replicate}
 use Rattle.stepper.specs.Finding.{blank}
 use Rattle.stepper.specs.Naming.{names}

@@ -6,5 +6,5 @@ invariant_of-self g c = record {
   wide = simp (length-append, length-drop) (omega (arith, c.in-Some.ensures));
   few = omega (arith, c.in-Some.ensures);
   kinds_wide = c.args.self.now.kinds_wide;
-  kinds_few = c.args.self.now.kinds_few
+  kinds_few = c.args.self.now.kinds_few;
 }
