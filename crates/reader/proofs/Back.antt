@@ -1,6 +1,6 @@
 -- The lines of a program are read back to its cells.
 use Rattle.std.proofs.Common.{◌≡◌, ℕ, ◌+◌, ◌<◌, ◌≤◌, Bool, true, cond, ◌&&◌, eqb, List, [], ◌∷◌, ◌++◌, map, length, set, Ok, Err, decimal, Result, sym, refl, ap, ◌∙◌, arith}
-use Rattle.std.specs.List.{AllByRecursion as All}
+use Rattle.std.specs.List.{AllByRecursion}
 use Rattle.std.proofs.lemmas.List.{length-set, length-append}
 use Rattle.std.proofs.lemmas.Bool.{eq-eqb}
 use Rattle.calculus.specs.declared.cells.TermCell.{TermCell}
@@ -63,7 +63,7 @@ some_end : {X : Type 0} (xs ys : List X) → 0 < length ys → 0 < length (xs ++
 some_end xs ys h = simp length-append (omega arith)
 
 pub ops_back : (os : List TermCell) (due : ℕ) (sec : Section) (k o : ℕ) (a : Bool) (ts : List TypeCell) (ms : List TermCell) (n : ℕ)
-    → n ≡ o + length os → InBody sec → All OpKnown os → Within k n ts ms
+    → n ≡ o + length os → InBody sec → AllByRecursion OpKnown os → Within k n ts ms
     → reads (map op_line os ++ (end_line k n ∷ [] ∷ [])) due (place sec k o a) ts ms ≡ left (Ok (k, n)) ts (puts o os ms)
 ops_back [] due sec k o a ts ms n e b h w =
     ap (λ i. reads (end_line k i ∷ [] ∷ []) due (place sec k o a) ts ms) is
@@ -79,7 +79,7 @@ ops_back (c ∷ os) due sec k o a ts ms n e b h w =
     ∙ ops_back os (due + 1) section.Terms k (o + 1) a ts (set ms o c) n (omega arith) tt h.1 (record { kinds = w.kinds; ops = omega (arith, w.ops, length-set ms o c) })
 
 pub kinds_back : (ks : List TypeCell) (os : List TermCell) (due k : ℕ) (a : Bool) (ts : List TypeCell) (ms : List TermCell) (m n : ℕ)
-    → m ≡ k + length ks → n ≡ length os → All KindKnown ks → All OpKnown os → Within m n ts ms
+    → m ≡ k + length ks → n ≡ length os → AllByRecursion KindKnown ks → AllByRecursion OpKnown os → Within m n ts ms
     → reads (map kind_line ks ++ (map op_line os ++ (end_line m n ∷ [] ∷ []))) due (place section.Types k 0 a) ts ms ≡ left (Ok (m, n)) (puts k ks ts) (puts 0 os ms)
 kinds_back [] os due k a ts ms m n e f h i w =
     ap (λ j. reads (map op_line os ++ (end_line j n ∷ [] ∷ [])) due (place section.Types k 0 a) ts ms) is

@@ -1,6 +1,6 @@
 -- What the lines were, whatever the reading of them leaves.
 use Rattle.std.proofs.Common.{◌≡◌, ℕ, ◌+◌, ◌-◌, ◌≤◌, Bool, true, false, cond, eqb, ◌⊎◌, List, [], ◌∷◌, ◌++◌, map, length, set, Ok, Err, Result, refl, ap, ◌∙◌, subst, inl, inr, arith}
-use Rattle.std.specs.List.{AllByRecursion as All}
+use Rattle.std.specs.List.{AllByRecursion}
 use Rattle.std.proofs.lemmas.List.{length-set}
 use Rattle.std.proofs.lemmas.Bool.{and_parts, eqb-true}
 use Rattle.calculus.specs.declared.cells.TermCell.{TermCell}
@@ -35,8 +35,8 @@ pub record Came (ls : List (List ℕ)) (due : ℕ) (sec : Section) (k o : ℕ) (
   pub os : List TermCell
   pub tail : List (List ℕ)
   pub lines_are : ls ≡ map kind_line ks ++ (map op_line os ++ tail)
-  pub kinds_known : All KindKnown ks
-  pub ops_known : All OpKnown os
+  pub kinds_known : AllByRecursion KindKnown ks
+  pub ops_known : AllByRecursion OpKnown os
   pub within : Within (k + length ks) (o + length os) ts ms
   pub ordered : sec ≡ section.Terms → ks ≡ []
   pub types_are : out.types ≡ puts k ks ts

@@ -1,6 +1,6 @@
 -- Reading is exact: what is accepted, what is read back, what a refused read leaves.
 use Rattle.std.proofs.Common.{◌≡◌, ℕ, ◌+◌, ◌-◌, ◌≤◌, false, ◌⊎◌, List, [], ◌∷◌, ◌++◌, map, length, take, Ok, Err, decimal, Result, sym, refl, ap, ◌∙◌, subst, inl, inr, zero-add, arith}
-use Rattle.std.specs.List.{AllByRecursion as All}
+use Rattle.std.specs.List.{AllByRecursion}
 use Rattle.std.proofs.ByRecursion.{All-append}
 use Rattle.std.proofs.lemmas.List.{append_assoc, length-append, length-map, take_at}
 use Rattle.calculus.specs.declared.cells.TermCell.{TermCell}
@@ -151,18 +151,18 @@ numbers_lack : (j k : ℕ) → j ≤ 65535 → k ≤ 65535 → Lacks 10 (decimal
 numbers_lack j k h i =
     All-append (λ b. b ≡ 10 → ⊥) (decimal j) (9 ∷ decimal k) (decimal_lacks 10 j (omega arith) (omega arith)) ((λ e. omega arith), decimal_lacks 10 k (omega arith) (omega arith))
 
-kinds_lack : (ks : List TypeCell) → All KindKnown ks → All (Lacks 10) (map kind_line ks)
+kinds_lack : (ks : List TypeCell) → AllByRecursion KindKnown ks → AllByRecursion (Lacks 10) (map kind_line ks)
 kinds_lack [] h = tt
 kinds_lack (c ∷ ks) h = (((λ e. omega arith), ((λ e. omega arith), (differs is_kind c.kind 10 h.0 refl, tt))), kinds_lack ks h.1)
 
-ops_lack : (os : List TermCell) → All OpKnown os → All (Lacks 10) (map op_line os)
+ops_lack : (os : List TermCell) → AllByRecursion OpKnown os → AllByRecursion (Lacks 10) (map op_line os)
 ops_lack [] h = tt
 ops_lack (c ∷ os) h =
     let k = h.0 in
     (((λ e. omega arith), ((λ e. omega arith), (differs is_op c.op 10 k.0 refl, ((λ e. omega arith), numbers_lack c.argument c.claim k.1 k.2)))), ops_lack os h.1)
 
-all_lack : (ks : List TypeCell) (os : List TermCell) → All KindKnown ks → All OpKnown os → length ks ≤ 65535 → length os ≤ 65535
-    → All (Lacks 10) (cell_lines ks os ++ (end_line (length ks) (length os) ∷ []))
+all_lack : (ks : List TypeCell) (os : List TermCell) → AllByRecursion KindKnown ks → AllByRecursion OpKnown os → length ks ≤ 65535 → length os ≤ 65535
+    → AllByRecursion (Lacks 10) (cell_lines ks os ++ (end_line (length ks) (length os) ∷ []))
 all_lack ks os h i m n =
     All-append (Lacks 10) (cell_lines ks os) (end_line (length ks) (length os) ∷ [])
     (((λ e. omega arith), ((λ e. omega arith), ((λ e. omega arith), ((λ e. omega arith), tt)))), All-append (Lacks 10) (map kind_line ks) (map op_line os) (kinds_lack ks h) (ops_lack os i))

@@ -1,6 +1,6 @@
 -- Texts that lack a mark, and pieces put together again.
 use Rattle.std.proofs.Common.{◌≡◌, ℕ, true, false, eqb, ◌⊎◌, List, [], ◌∷◌, ◌++◌, sym, refl, ap, ◌∙◌, inl, inr}
-use Rattle.std.specs.List.{AllByRecursion as All}
+use Rattle.std.specs.List.{AllByRecursion}
 use Rattle.std.proofs.lemmas.List.{append_assoc, append-nil}
 use Rattle.std.proofs.lemmas.Bool.{cases_Bool, cond-true, cond-false, eqb-true}
 use Rattle.reader.specs.Pieces.{longer, pieces}
@@ -8,7 +8,7 @@ use Rattle.reader.specs.Stored.{text_of}
 use Rattle.reader.proofs.Cuts.{at_mark, at_other, some_piece}
 
 abbrev pub Lacks : ℕ → List ℕ → Type 0
-Lacks mark xs = All (λ b. b ≡ mark → ⊥) xs
+Lacks mark xs = AllByRecursion (λ b. b ≡ mark → ⊥) xs
 
 -- pieces, with the mark between them
 abbrev pub glued : ℕ → List (List ℕ) → List ℕ
@@ -47,6 +47,6 @@ glue_lines [] = refl
 glue_lines (l ∷ []) = sym (append-nil (l ++ (10 ∷ [])))
 glue_lines (l ∷ m ∷ ls) = ap (λ ys. l ++ (10 ∷ ys)) (glue_lines (m ∷ ls)) ∙ sym (append_assoc l (10 ∷ []) (text_of (m ∷ ls)))
 
-pub line_pieces : (ls : List (List ℕ)) → All (Lacks 10) ls → pieces 10 (text_of ls) ≡ ls ++ ([] ∷ [])
+pub line_pieces : (ls : List (List ℕ)) → AllByRecursion (Lacks 10) ls → pieces 10 (text_of ls) ≡ ls ++ ([] ∷ [])
 line_pieces [] h = refl
 line_pieces (l ∷ ls) h = ap (pieces 10) (append_assoc l (10 ∷ []) (text_of ls)) ∙ cut_off 10 l (text_of ls) h.0 ∙ ap (λ ps. l ∷ ps) (line_pieces ls h.1)

@@ -1,6 +1,6 @@
 -- The text of a stored program, written from the cells that its lines say.
 use Rattle.std.specs.Prelude.{◌≡◌, ℕ, ◌-◌, ◌≤◌, true, ◌⊎◌, List, [], ◌∷◌, ◌++◌, map, length, take, drop, Some, Ok, Err, decimal, Result, ◌≢◌}
-use Rattle.std.specs.List.{flat_map, AllByRecursion as All}
+use Rattle.std.specs.List.{flat_map, AllByRecursion}
 use Rattle.calculus.specs.declared.cells.TermCell.{TermCell}
 use Rattle.calculus.specs.declared.cells.TypeCell.{TypeCell}
 use Rattle.reader.specs.declared.faults.ReadFault.{ReadFault}
@@ -44,8 +44,8 @@ OpKnown c = (is_op c.op ≡ true) × (c.argument ≤ 65535) × (c.claim ≤ 6553
 
 -- letters of the calculus and numbers up to 65,535, no more of them than the limits and the tables allow
 pub record Fitting (ks : List TypeCell) (os : List TermCell) (ts : List TypeCell) (ms : List TermCell) : Type 0 where
-  pub kinds_known : All KindKnown ks
-  pub ops_known : All OpKnown os
+  pub kinds_known : AllByRecursion KindKnown ks
+  pub ops_known : AllByRecursion OpKnown os
   pub kinds_within : (length ks ≤ 256) × (length ks ≤ length ts)
   pub ops_within : (length os ≤ 512) × (length os ≤ length ms)
 

@@ -1,7 +1,7 @@
 -- Running terms that are values: qubits, pairs of them, and what rule a value allows.
 use Rattle.std.specs.Prelude.{ℕ, Bool, cond, Some, None, Option, nat_lt}
-use Rattle.second.specs.declared.trees.Constant.{Constant as Leaf}
-use Rattle.second.specs.declared.trees.Constant.TheVariants.{Zero, One, Measure, New, Unit, Gate, Qubit}
+use Rattle.second.specs.declared.nodes.Constant.{Constant as Leaf}
+use Rattle.second.specs.declared.nodes.Constant.TheVariants.{Zero, One, Measure, New, Unit, Gate, Qubit}
 use Rattle.second.specs.declared.terms.Term.{Term}
 use Rattle.second.specs.declared.terms.Term.TheVariants.{Variable, Constant, Lambda', Apply', Pair', Split', Choose'}
 use Rattle.second.specs.declared.seeks.SecondRule.{SecondRule}

@@ -1,10 +1,10 @@
 -- Stored trees: where a root stands, and the constants by their letters.
 use Rattle.std.specs.Prelude.{ℕ, cond, Some, None, Option, ◌==◌}
-use Rattle.second.specs.declared.trees.Site.{Site}
-use Rattle.second.specs.declared.trees.Constant.{Constant as Leaf}
-use Rattle.second.specs.declared.trees.Constant.TheVariants.{Zero, One, Measure, New, Unit, Gate, Qubit}
-use Rattle.second.specs.declared.trees.Tree.{Tree}
-use Rattle.second.specs.declared.trees.Tree.TheVariants.{Variable, Constant, Lambda', Apply', Pair', Split', Choose'}
+use Rattle.second.specs.declared.nodes.Site.{Site}
+use Rattle.second.specs.declared.nodes.Constant.{Constant as Leaf}
+use Rattle.second.specs.declared.nodes.Constant.TheVariants.{Zero, One, Measure, New, Unit, Gate, Qubit}
+use Rattle.second.specs.declared.nodes.Tree.{Tree}
+use Rattle.second.specs.declared.nodes.Tree.TheVariants.{Variable, Constant, Lambda', Apply', Pair', Split', Choose'}
 
 -- the site of a tree's root
 abbrev pub site_of : Tree → Site

@@ -6,7 +6,7 @@ ghost use Rattle.second.specs.declared.halt.Halt.TheVariants.{Fault};
 
 use crate::halt::{Halt, fault};
 use crate::kinds::{Kind, is_below, same};
-use crate::trees::{Constant, Site, Tree};
+use crate::nodes::{Constant, Site, Tree};
 use calculus::MOST_BINDERS;
 use std::alloc::{AllocError, Global};
 

@@ -6,6 +6,7 @@ mod halt;
 mod judge;
 mod kinds;
 mod listing;
+mod nodes;
 mod seeks;
 mod shots;
 mod steps;
@@ -13,7 +14,6 @@ mod tables;
 mod tape;
 mod terms;
 mod texts;
-mod trees;
 
 pub use kinds::{Kind, is_below, same, write_kind};
 pub use seeks::{Place, SecondRule};

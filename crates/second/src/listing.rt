@@ -3,9 +3,9 @@
 ghost use Rattle.std.specs.Prelude.{◌≡◌, ◌≤◌, length};
 
 use crate::kinds::{Kind, write_kind};
+use crate::nodes::Constant;
 use crate::tape::Pulse;
 use crate::terms::Term;
-use crate::trees::Constant;
 use std::alloc::{AllocError, Global};
 
 /// The lines so far.

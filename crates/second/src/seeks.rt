@@ -3,9 +3,9 @@
 ghost use Rattle.std.specs.Prelude.{◌≡◌};
 ghost use Rattle.second.specs.Terms.{applied_of, branch_of, split_of, placed_at};
 
+use crate::nodes::Constant;
 use crate::steps::gate_pulse;
 use crate::terms::{Term, size};
-use crate::trees::Constant;
 
 /// The rules, by what they apply to.
 #[derive(Clone, Copy, PartialEq, Debug, Drop)]

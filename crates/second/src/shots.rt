@@ -4,13 +4,13 @@ use crate::halt::{Halt, fault};
 use crate::judge::judge;
 use crate::kinds::Kind;
 use crate::listing::Listing;
+use crate::nodes::{Tree, grow, grow_kinds};
 use crate::seeks::{Place, seek};
 use crate::steps::advance;
 use crate::tables::{test_running, test_tables};
 use crate::tape::Tape;
 use crate::terms::{Names, Term, handles, name, size};
 use crate::texts::read;
-use crate::trees::{Tree, grow, grow_kinds};
 use calculus::{MOST_RUNNING_CELLS, TermCell, TypeCell};
 use std::alloc::{AllocError, Global};
 

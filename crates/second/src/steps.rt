@@ -6,9 +6,9 @@ ghost use Rattle.second.specs.Terms.{qubit_of, two_qubits_of, pulse_of, leaf_bit
 ghost use Rattle.second.specs.declared.terms.Term.TheVariants.{Constant as Constant-term};
 
 use crate::halt::{Halt, fault};
+use crate::nodes::Constant;
 use crate::tape::{Pulse, Tape};
 use crate::terms::{Term, copy, put};
-use crate::trees::Constant;
 use std::alloc::{AllocError, Global};
 
 // The handle of a term that is a qubit.

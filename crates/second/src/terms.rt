@@ -2,7 +2,7 @@
 
 ghost use Rattle.std.specs.Prelude.{◌≡◌, ◌+◌, ◌-◌, ◌<◌, length, if◌then◌else◌, vec_len, OnOk, nat_lt, slice_index};
 
-use crate::trees::{Constant, Tree};
+use crate::nodes::{Constant, Tree};
 use std::alloc::{AllocError, Global};
 
 /// A running term. Each binder has a name of its own as it is loaded; 0 names no binder.

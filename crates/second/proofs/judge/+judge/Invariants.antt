@@ -1,4 +1,4 @@
-use Rattle.second.proofs.trees.Tree.TheLaws.{the_size}
+use Rattle.second.proofs.nodes.Tree.TheLaws.{the_size}
 use Rattle.second.proofs.judge.+judge.Given as goal
 
 abbrev pub decreases-judge : goal.decreases-judge

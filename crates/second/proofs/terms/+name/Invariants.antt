@@ -1,4 +1,4 @@
-use Rattle.second.proofs.trees.Tree.TheLaws.{the_size}
+use Rattle.second.proofs.nodes.Tree.TheLaws.{the_size}
 use Rattle.second.proofs.terms.+name.Given as goal
 
 abbrev pub decreases-name : goal.decreases-name
