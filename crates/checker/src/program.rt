@@ -1,6 +1,6 @@
 //! A program as it is checked: both tables, and where each tree of the term ends.
 
-ghost use Rattle.std.specs.Prelude.{◌≡◌, ℕ, ◌<◌, ◌≤◌, length};
+ghost use Rattle.std.specs.Prelude.{◌≡◌, ◌<◌, ◌≤◌, length};
 ghost use Rattle.checker.specs.Ending.{EndsFrom, claim_at, past_at};
 
 use calculus::{MOST_TERM_CELLS, TermCell, TypeCell};

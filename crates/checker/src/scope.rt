@@ -1,6 +1,6 @@
 //! The record of binders in scope, and the guard that leaves them.
 
-ghost use Rattle.std.specs.Prelude.{◌≡◌, ◌+◌, ◌<◌, set, slice_set};
+ghost use Rattle.std.specs.Prelude.{◌≡◌, ◌+◌, ◌<◌, slice_set};
 ghost use Rattle.checker.specs.Scoping.{binders_of, depth_tested, duplicable};
 
 use crate::faults::CheckFault;

@@ -1,6 +1,6 @@
 //! Sets of binders, by level: the outermost is 0.
 
-ghost use Rattle.std.specs.Prelude.{◌≡◌, ℕ, ◌<◌, true, false, ◌&&◌, ◌||◌, set, replicate, slice_set};
+ghost use Rattle.std.specs.Prelude.{◌≡◌, ℕ, ◌<◌, true, false, ◌&&◌, ◌||◌, replicate, slice_set};
 ghost use Rattle.checker.specs.Scoping.{has};
 
 use calculus::MOST_BINDERS;

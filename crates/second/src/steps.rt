@@ -3,7 +3,7 @@
 
 ghost use Rattle.std.specs.Prelude.{◌≡◌};
 ghost use Rattle.second.specs.Terms.{qubit_of, two_qubits_of, pulse_of, leaf_bit};
-ghost use Rattle.second.specs.declared.terms.Term.TheVariants.{Constant as Constant-term};
+ghost use Rattle.second.specs.declared.terms.Term.TheVariants.{Constant as ConstantTerm};
 
 use crate::halt::{Halt, fault};
 use crate::nodes::Constant;
@@ -60,7 +60,7 @@ pub fn gate_pulse(gate: u16, on: &Term) -> Option<Pulse>
 }
 
 fn bit_term(value: bool) -> Term
-    ensures { result ≡ Constant-term (leaf_bit value) }
+    ensures { result ≡ ConstantTerm (leaf_bit value) }
 {
     Term::Constant(if value { Constant::One } else { Constant::Zero })
 }

@@ -1,6 +1,6 @@
 //! Finds the rule that applies to a running term, and the cell it applies at.
 
-ghost use Rattle.std.specs.Prelude.{◌≡◌, ◌≤◌, ◌∷◌, drop, Err, MatchResult, slice_index_or};
+ghost use Rattle.std.specs.Prelude.{◌≡◌, ◌≤◌, drop, Err, MatchResult, slice_index_or};
 ghost use Rattle.calculus.specs.Letters.{allowed, arity};
 ghost use Rattle.trees.specs.Reach.{ends};
 ghost use Rattle.stepper.specs.Finding.{given, spelt, operand_word, blank, applied_of, branched_of, opened_of, end_or, tested, told};

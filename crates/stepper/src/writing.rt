@@ -1,6 +1,6 @@
 //! Writes the next term: what a rule leaves, in place of the cells that it applies to.
 
-ghost use Rattle.std.specs.Prelude.{◌≡◌, ◌+◌, ◌*◌, ◌<◌, ◌≤◌, length, IfSome};
+ghost use Rattle.std.specs.Prelude.{◌≡◌, ◌+◌, ◌*◌, ◌<◌, ◌≤◌, IfSome};
 ghost use Rattle.stepper.specs.Writing.{running_cell, answer_cell, part_of, put_count, put_cells};
 
 use crate::finder::past;
