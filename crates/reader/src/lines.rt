@@ -1,7 +1,7 @@
 //! What a line is, by its letter and its fields.
 
 ghost use Rattle.std.specs.Prelude.{◌≡◌, if◌then◌else◌};
-ghost use Rattle.reader.specs.Lines.{other, said, said_by};
+ghost use Rattle.reader.specs.Lines.{header_line, other, said, said_by};
 ghost use Rattle.std.specs.Str.{bytes_eq};
 
 use crate::parts::parted;
@@ -23,11 +23,18 @@ fn lettered<'a>(field: &[u8], letter: &[u8], line: Record<'a>) -> Record<'a>
     if field == letter { line } else { Record::Other }
 }
 
+// Whether a line is the header.
+fn is_header(line: &[u8]) -> bool
+    ensures { result ≡ bytes_eq line.now header_line }
+{
+    line == b"QL\t1".as_slice()
+}
+
 /// The record that a line is.
 pub fn record_of(line: &[u8]) -> Record<'_>
     ensures { said_by result ≡ said line.now }
 {
-    if line == b"QL\t1".as_slice() {
+    if is_header(line) {
         return Record::Header;
     }
     let Some((letter, rest)) = parted(line, b'\t') else {

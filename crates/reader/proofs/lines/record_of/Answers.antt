@@ -1,5 +1,3 @@
-use Rattle.std.proofs.Common.{ap, ◌∙◌}
-use Rattle.std.specs.Str.{bytes_eq}
 use Rattle.reader.proofs.Cuts.{then_cut}
 use Rattle.reader.proofs.Forms.{by_fields, too_many}
 use Rattle.reader.proofs.lines.record_of.Goals as goal
@@ -11,4 +9,4 @@ returns-in-Some-parted-3 c =
     let parts = then_cut c.in-Some.ensures.parts (then_cut c.in-Some-parted.ensures.parts third) in
     let fourth = c.in-Some-parted-3.field-0 in
     let many = too_many c.in-Some.letter.now c.in-Some-parted.first.now c.in-Some-parted-2.second.now fourth.0.now fourth.1.now in
-    by_fields line c.eq.result (c.eq.ensures ∙ ap (bytes_eq line) c.as_slice.ensures) c.if-eq.false parts many
+    by_fields line c.is_header.result c.is_header.ensures c.if-is_header.false parts many
