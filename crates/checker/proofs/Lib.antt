@@ -1,1 +1,13 @@
+pub mod Binders
+pub mod Claimed
+pub mod Clearing
 pub mod Ending
+pub mod Entering
+pub mod Exact
+pub mod Fits
+pub mod Nodes
+pub mod PartPlaces
+pub mod Parts
+pub mod Passing
+pub mod Showing
+pub mod Trees

@@ -1,15 +1,18 @@
--- Where the trees of a table end, and what its cells claim.
-use Rattle.std.specs.Prelude.{ℕ, ◌<◌, ◌≤◌, cond, List, length, nat_lt, slice_index, slice_index_or}
-use Rattle.calculus.specs.declared.cells.TypeCell.{TypeCell}
+-- Where the trees of a table end.
+use Rattle.std.specs.Prelude.{◌≡◌, ℕ, zero, suc, ◌+◌, ◌<◌, ◌≤◌, List, length, slice_index}
 use Rattle.calculus.specs.declared.cells.TermCell.{TermCell}
+use Rattle.calculus.specs.Reading.{term_at}
+use Rattle.calculus.specs.Terms.{size}
 
--- from a place on, each tree of the first `len` cells ends after its place and not after the last of them
-abbrev pub EndsFrom : ℕ → ℕ → List ℕ → Type 0
-EndsFrom at len ends = (k : ℕ) → at ≤ k → k < len → (k < slice_index ends k) × (slice_index ends k ≤ len)
+-- one past the tree at a place
+abbrev pub tree_end : List TermCell → ℕ → ℕ
+tree_end terms at = at + size (term_at terms at)
 
-abbrev pub past_at : ℕ → List ℕ → ℕ → ℕ
-past_at len ends at = cond (nat_lt at len) (slice_index ends at) at
+-- one past so many trees
+abbrev pub trees_end : List TermCell → ℕ → ℕ → ℕ
+trees_end terms at zero = at
+trees_end terms at (suc trees) = trees_end terms (tree_end terms at) trees
 
--- the claim of the cell at a place, or a place past the type table
-abbrev pub claim_at : List TypeCell → List TermCell → ℕ → ℕ
-claim_at types terms at = cond (nat_lt at (length terms)) (slice_index_or terms at (record { op = 0; argument = 0; claim = 0 })).claim (length types)
+-- from a place on, the list has the end of each tree of the table
+abbrev pub EndsFrom : ℕ → List TermCell → List ℕ → Type 0
+EndsFrom at terms ends = (k : ℕ) → at ≤ k → k < length terms → slice_index ends k ≡ tree_end terms k

@@ -1,7 +1,8 @@
+pub mod Accepting
 pub mod Ending
-pub mod Faults
 pub mod Judging
-pub mod Relating
+pub mod Meaning
 pub mod Rules
 pub mod Scoping
 pub mod Tables
+pub mod Worked

@@ -1,10 +1,53 @@
--- Where the own types of the constants stand in the table of them.
-use Rattle.std.specs.Prelude.{ℕ, cond, ◌||◌, ◌==◌, nat_lt}
+-- The constants, by op and argument, and where their own types stand in the table of them.
+use Rattle.std.specs.Prelude.{ℕ, Bool, true, false, Some, None, Option}
+use Rattle.calculus.specs.declared.gates.Gate.{Gate}
+use Rattle.calculus.specs.declared.gates.Gate.TheVariants.{H, X, Z, S, T, Cnot, Swap, Toffoli}
+use Rattle.calculus.specs.Gates.{gate_of}
+use Rattle.calculus.specs.Letters.{Letter, at_v, at_q, at_g, at_0, at_1, at_m, at_n, at_s, at_l, at_a, at_p, at_d, at_i, other}
+use Rattle.calculus.specs.Terms.{Const, bit_of, meas, new, gate}
+use Rattle.calculus.specs.Types.{Ty}
+use Rattle.verdict.specs.Claims.{constant_fits}
 
--- by the letters 0, 1, n, m and g, the last by its gate
-abbrev pub own_place : ℕ → ℕ → ℕ
-own_place op argument =
-    cond (op == 48 || op == 49) 0
-    (cond (op == 110) 2
-    (cond (op == 109) 6
-    (cond (op == 103) (cond (nat_lt argument 5) 11 (cond (nat_lt argument 7) 15 (cond (argument == 7) 23 35))) 35)))
+abbrev pub gate_constant : Option Gate → Option Const
+gate_constant None = None
+gate_constant (Some u) = Some (gate u)
+
+-- the constant that a letter and its argument stand for, if they stand for one
+abbrev pub constant_of : Letter → ℕ → Option Const
+constant_of at_v x = None
+constant_of at_q x = None
+constant_of at_g x = gate_constant (gate_of x)
+constant_of at_0 x = Some (bit_of false)
+constant_of at_1 x = Some (bit_of true)
+constant_of at_m x = Some meas
+constant_of at_n x = Some new
+constant_of at_s x = None
+constant_of at_l x = None
+constant_of at_a x = None
+constant_of at_p x = None
+constant_of at_d x = None
+constant_of at_i x = None
+constant_of other x = None
+
+-- it is a constant, and its own type is a subtype of the claim
+abbrev pub own_fits : Option Const → Ty → Bool
+own_fits None c = false
+own_fits (Some k) c = constant_fits k c
+
+-- the places of the own types, one after the other: of bits, n, m, and gates on one, two and three qubits
+abbrev pub own_place : Const → ℕ
+own_place (bit_of b) = 0
+own_place new = 2
+own_place meas = 6
+own_place (gate H) = 11
+own_place (gate X) = 11
+own_place (gate Z) = 11
+own_place (gate S) = 11
+own_place (gate T) = 11
+own_place (gate Cnot) = 15
+own_place (gate Swap) = 15
+own_place (gate Toffoli) = 23
+
+abbrev pub own_placed : Option Const → Option ℕ
+own_placed None = None
+own_placed (Some k) = Some (own_place k)

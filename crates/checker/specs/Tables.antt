@@ -1,13 +1,13 @@
 -- The tests of whole tables, types before terms, each with the first cell at fault.
-use Rattle.std.specs.Prelude.{ℕ, Bool, not, ◌&&◌, List, length, is_some, is_ok, Some, None, Ok, Err, Option, ◌==◌, nat_le, nat_lt}
+use Rattle.std.specs.Prelude.{ℕ, Bool, not, ◌&&◌, List, length, is_some, Some, None, Ok, Err, Option, ◌==◌, nat_le, nat_lt}
 use Rattle.trees.specs.Failing.{first_failing}
 use Rattle.trees.specs.Reach.{ends}
 use Rattle.trees.specs.Whole.{whole}
 use Rattle.calculus.specs.Letters.{allowed, arity, kind_arity, kind_parts_of}
 use Rattle.calculus.specs.declared.cells.TypeCell.{TypeCell}
 use Rattle.calculus.specs.declared.cells.TermCell.{TermCell}
-use Rattle.checker.specs.Faults.{Test, must, none_at}
-use Rattle.checker.specs.declared.faults.CheckFault.TheVariants.{TooManyCells, BadCell, NotWhole, ClaimOutside}
+use Rattle.verdict.specs.Faults.{Verdict, must, none_at}
+use Rattle.verdict.specs.declared.faults.CheckFault.TheVariants.{TooManyCells, BadCell, NotWhole, ClaimOutside}
 
 abbrev pub known_kind : TypeCell → Bool
 known_kind c = is_some (kind_parts_of c.kind)
@@ -20,11 +20,11 @@ abbrev pub claim_in : ℕ → TermCell → Bool
 claim_in n c = nat_lt c.claim n
 
 -- one tree that ends with the table: unfinished is cell 0, and the first cell after it is named
-abbrev pub one_tree : ℕ → Option ℕ → Test → Test
+abbrev pub one_tree : ℕ → Option ℕ → Verdict → Verdict
 one_tree n None t = Err (NotWhole 0)
 one_tree n (Some e) t = must (e == n) (NotWhole e) t
 
-abbrev pub tables_tested : List TypeCell → List TermCell → Test
+abbrev pub tables_tested : List TypeCell → List TermCell → Verdict
 tables_tested types terms =
     must (nat_le (length types) 256) (TooManyCells 256)
     (must (nat_le (length terms) 512) (TooManyCells 512)
@@ -33,7 +33,3 @@ tables_tested types terms =
     (must (whole kind_arity types) (NotWhole 0)
     (one_tree (length terms) (ends arity 1 terms 0)
     (none_at ClaimOutside (first_failing (claim_in (length types)) terms 0) (Ok tt)))))))
-
--- what is known of the tables of an accepted program
-abbrev pub accepts : List TypeCell → List TermCell → Bool
-accepts types terms = is_ok (tables_tested types terms)

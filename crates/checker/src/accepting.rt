@@ -1,21 +1,21 @@
 //! The check of a whole program, and programs that passed it.
 
-ghost use Rattle.std.specs.Prelude.{◌≡◌, ◌≤◌, true, IfErr, Err, MatchResult, OnOk};
-ghost use Rattle.checker.specs.Faults.{fault_number};
-ghost use Rattle.checker.specs.Tables.{accepts, tables_tested};
+ghost use Rattle.std.specs.Prelude.{◌≡◌, true, OnOk};
+ghost use Rattle.checker.specs.Accepting.{CheckingIsExact, accepts, program_verdict};
+ghost use Rattle.checker.specs.Worked.{WorkedPrograms};
 
-use crate::faults::CheckFault;
 use crate::judging::judge;
 use crate::program::Program;
-use crate::relating::plain;
 use crate::scope::Scope;
 use crate::tables::test_tables;
 use calculus::{MOST_BINDERS, TermCell, TypeCell};
+use subtyping::plain;
+use verdict::CheckFault;
 
 /// Checks both tables as wholes, and then the term and its claims against the typing rules.
 pub fn check<'a>(types: &'a [TypeCell], terms: &'a [TermCell]) -> Result<(), CheckFault>
+    ensures verdict { result ≡ program_verdict types.now terms.now }
     ensures passed { OnOk result (accepts types.now terms.now ≡ true) }
-    ensures refused { MatchResult (tables_tested types.now terms.now) (λ _. IfErr result (λ f. fault_number f ≤ 28)) (λ f. result ≡ Err f) }
 {
     test_tables(types, terms)?;
     let program = Program::new(types, terms);
@@ -25,6 +25,20 @@ pub fn check<'a>(types: &'a [TypeCell], terms: &'a [TermCell]) -> Result<(), Che
     };
     judge(&program, 0, &mut scope)?;
     Ok(())
+}
+
+/// Two tables are accepted just where they store a term that has a derivation with its claims, within the limits.
+pub fn checking_is_exact() -> u8
+    ensures { CheckingIsExact }
+{
+    0
+}
+
+/// Worked programs get the verdicts that they should.
+pub fn worked_programs_are_judged() -> u8
+    ensures { WorkedPrograms }
+{
+    0
 }
 
 /// A program that was checked: both tables, lent as long as the acceptance is in use.

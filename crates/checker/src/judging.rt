@@ -1,25 +1,25 @@
 //! The verdict on a term, in tree order.
 
-ghost use Rattle.std.specs.Prelude.{◌≡◌, ◌+◌, ◌<◌, ◌≤◌, length, Ok, Err, OnOk};
-ghost use Rattle.checker.specs.Judging.{Judged, binder_count};
-ghost use Rattle.checker.specs.Scoping.{depth_tested};
+ghost use Rattle.std.specs.Prelude.{◌≡◌, ◌+◌, ◌<◌, ◌≤◌, length, IfOk};
+ghost use Rattle.checker.specs.Judging.{Bindable, Judged, around, binder_count, node, verdict_of, with_binders};
+ghost use Rattle.checker.specs.Scoping.{Kept, Scoped, UsesOf};
+ghost use Rattle.verdict.specs.Judging.{entering, verdict_from};
 
-use crate::faults::CheckFault;
 use crate::leaving::{apart, uncaptured};
 use crate::program::Program;
-use crate::relating::{Marked, plain};
-use crate::rules::{claims_agree, take_apart};
+use crate::rules::claims_agree;
 use crate::scope::{Entered, Scope, bind, test_depth};
 use crate::used::{Used, either, none, only};
-use calculus::TermCell;
+use subtyping::{Marked, plain, take_apart};
+use verdict::CheckFault;
 
 // The tests of a cell before its parts: the binders in scope, then the claims.
-fn enter(program: &Program, at: usize, cell: TermCell, scope: &Scope) -> Result<(), CheckFault>
-    requires { (at < length program.now.terms.now) × ((length program.now.terms.now ≤ 512) × (scope.now.depth ≤ 32)) }
-    ensures { OnOk result (depth_tested at cell.op cell.argument scope.now.depth ≡ Ok tt) }
+fn enter(program: &Program, at: usize, scope: &Scope) -> Result<(), CheckFault>
+    requires { (Judged program.now) × ((at < length program.now.terms.now) × Scoped program.now.types.now scope.now) }
+    ensures { result ≡ entering at (around program.now scope.now) (node program.now at) }
 {
-    test_depth(cell, at, scope.depth)?;
-    if !claims_agree(program, at, cell, scope) {
+    test_depth(program.terms[at], at, scope.depth)?;
+    if !claims_agree(program, at, scope) {
         return Err(CheckFault::WrongClaim(at));
     }
     Ok(())
@@ -34,8 +34,10 @@ fn judge_under(
     inner: Option<Marked>,
     scope: &mut Scope,
 ) -> Result<Used, CheckFault>
-    requires { (Judged program.now) × (scope.old.depth + binder_count inner ≤ 32) }
-    ensures { scope.new.depth ≡ scope.old.depth }
+    requires { (Judged program.now) × ((at < length program.now.terms.now) × (Scoped program.now.types.now scope.old × Bindable program.now.types.now scope.old outer inner)) }
+    ensures verdict { verdict_of result ≡ verdict_from at (with_binders program.now.types.now outer inner (around program.now scope.old)) (node program.now at) }
+    ensures used { IfOk result (λ u. UsesOf u (scope.old.depth + binder_count inner) (node program.now at)) }
+    ensures kept { Kept scope.old scope.new }
 {
     let before = scope.depth;
     let entered = Entered { scope, before };
@@ -49,16 +51,14 @@ fn judge_under(
 /// The binders that the term at a place uses, or its first fault: of a cell, then of its parts in order, then on leaving it.
 #[cycle(judge_judge_under)]
 pub fn judge(program: &Program, at: usize, scope: &mut Scope) -> Result<Used, CheckFault>
-    requires { (Judged program.now) × (scope.old.depth ≤ 32) }
-    ensures { scope.new.depth ≡ scope.old.depth }
+    requires { (Judged program.now) × ((at < length program.now.terms.now) × Scoped program.now.types.now scope.old) }
+    ensures verdict { verdict_of result ≡ verdict_from at (around program.now scope.old) (node program.now at) }
+    ensures used { IfOk result (λ u. UsesOf u scope.old.depth (node program.now at)) }
+    ensures kept { Kept scope.old scope.new }
 {
-    if at >= program.terms.len() {
-        return Err(CheckFault::NotWhole(0));
-    }
-    let cell = program.terms[at];
-    enter(program, at, cell, scope)?;
+    enter(program, at, scope)?;
     let types = program.types;
-    let second = program.past(at + 1);
+    let cell = program.terms[at];
     match cell.op {
         'v' => Ok(only(scope.depth - 1 - cell.argument as usize)),
         'l' => {
@@ -68,7 +68,7 @@ pub fn judge(program: &Program, at: usize, scope: &mut Scope) -> Result<Used, Ch
         }
         'a' | 'p' => {
             let left = judge(program, at + 1, scope)?;
-            let right = judge(program, second, scope)?;
+            let right = judge(program, program.past(at + 1), scope)?;
             apart(types, scope, &left, &right, at)
         }
         'd' => {
@@ -76,7 +76,7 @@ pub fn judge(program: &Program, at: usize, scope: &mut Scope) -> Result<Used, Ch
             let given = judge(program, at + 1, scope)?;
             let body = judge_under(
                 program,
-                second,
+                program.past(at + 1),
                 pair.first_marked(),
                 Some(pair.second_marked()),
                 scope,
@@ -84,6 +84,7 @@ pub fn judge(program: &Program, at: usize, scope: &mut Scope) -> Result<Used, Ch
             apart(types, scope, &given, &body, at)
         }
         'i' => {
+            let second = program.past(at + 1);
             let condition = judge(program, at + 1, scope)?;
             let then = judge(program, second, scope)?;
             let other = judge(program, program.past(second), scope)?;

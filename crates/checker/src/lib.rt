@@ -2,15 +2,13 @@
 #![tactic(auto)]
 
 mod accepting;
-mod faults;
 mod judging;
 mod leaving;
 mod program;
-mod relating;
 mod rules;
 mod scope;
 mod tables;
 mod used;
 
-pub use accepting::{Accepted, check};
-pub use faults::CheckFault;
+pub use accepting::{Accepted, check, checking_is_exact, worked_programs_are_judged};
+pub use verdict::CheckFault;

@@ -1,12 +1,15 @@
 //! The record of binders in scope, and the guard that leaves them.
 
-ghost use Rattle.std.specs.Prelude.{◌≡◌, ◌+◌, ◌<◌, slice_set};
-ghost use Rattle.checker.specs.Scoping.{binders_of, depth_tested, duplicable};
+ghost use Rattle.std.specs.Prelude.{◌≡◌, ◌+◌, ◌<◌, ◌≤◌, slice_set};
+ghost use Rattle.calculus.specs.Stripping.{duplicable};
+ghost use Rattle.checker.specs.Scoping.{Scoped, binders_of, depth_tested, in_scope, used_below};
+ghost use Rattle.subtyping.specs.Placing.{Placed, meant};
+ghost use Rattle.verdict.specs.Sharing.{all_duplicable};
 
-use crate::faults::CheckFault;
-use crate::relating::{Marked, kind_at};
 use crate::used::Used;
 use calculus::{MOST_BINDERS, TermCell, TypeCell};
+use subtyping::Marked;
+use verdict::CheckFault;
 
 /// The types of the binders in scope, the outermost first.
 #[derive(Drop)]
@@ -56,7 +59,7 @@ fn binders_of(op: char) -> usize
 
 /// The tests of a cell that need only the number of binders in scope.
 pub fn test_depth(cell: TermCell, at: usize, depth: usize) -> Result<(), CheckFault>
-    requires { depth < 33 }
+    requires { depth ≤ 32 }
     ensures { result ≡ depth_tested at cell.op cell.argument depth }
 {
     if depth + binders_of(cell.op) > MOST_BINDERS {
@@ -70,14 +73,18 @@ pub fn test_depth(cell: TermCell, at: usize, depth: usize) -> Result<(), CheckFa
 
 // Whether the values of a type may be copied.
 fn is_duplicable(types: &[TypeCell], binder: Marked) -> bool
-    ensures { result ≡ duplicable types.now binder }
+    requires { Placed types.now binder }
+    ensures { result ≡ duplicable (meant types.now binder) }
 {
-    binder.marks > 0 || kind_at(types, binder.place) == '!'
+    binder.marks > 0 || types[binder.place].kind == '!'
 }
 
 /// Whether each binder in scope that is in the set has a duplicable type.
-pub fn is_clear(types: &[TypeCell], scope: &Scope, used: &Used) -> bool {
-    for level in 0..scope.depth.min(MOST_BINDERS) {
+pub fn is_clear(types: &[TypeCell], scope: &Scope, used: &Used) -> bool
+    requires { Scoped types.now scope.now }
+    ensures { result ≡ all_duplicable (in_scope types.now scope.now) (used_below used.now scope.now.depth) }
+{
+    for level in 0..scope.depth {
         if used.levels[level] && !is_duplicable(types, scope.binders[level]) {
             return false;
         }

@@ -3,9 +3,9 @@
 ghost use Rattle.std.specs.Prelude.{◌≡◌};
 ghost use Rattle.checker.specs.Tables.{known_kind, storable, claim_in, tables_tested};
 
-use crate::faults::CheckFault;
 use calculus::{MOST_TERM_CELLS, MOST_TYPE_CELLS, TermCell, TypeCell, is_allowed, kind_parts};
 use trees::{Test, count, first_failing, reach};
+use verdict::CheckFault;
 
 // The test of a known kind letter.
 #[derive(Drop)]

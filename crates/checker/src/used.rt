@@ -36,7 +36,7 @@ pub fn either(a: &Used, b: &Used) -> Used
 {
     let mut levels = [false; MOST_BINDERS];
     for level in 0..MOST_BINDERS {
-        levels[level] = a.levels[level] || b.levels[level];
+        levels[level] = a.levels[level] | b.levels[level];
     }
     Used { levels }
 }
@@ -47,7 +47,7 @@ pub fn shared(a: &Used, b: &Used) -> Used
 {
     let mut levels = [false; MOST_BINDERS];
     for level in 0..MOST_BINDERS {
-        levels[level] = a.levels[level] && b.levels[level];
+        levels[level] = a.levels[level] & b.levels[level];
     }
     Used { levels }
 }

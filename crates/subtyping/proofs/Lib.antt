@@ -1,0 +1,5 @@
+pub mod Pairing
+pub mod Parted
+pub mod Places
+pub mod Reaching
+pub mod Related

@@ -1,0 +1,3 @@
+pub mod Parting
+pub mod Placing
+pub mod Relating

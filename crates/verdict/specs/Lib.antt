@@ -1,0 +1,6 @@
+pub mod Claims
+pub mod Faults
+pub mod Judging
+pub mod Sharing
+pub mod Uses
+pub mod Worked

@@ -1,0 +1,33 @@
+//! What the verdict decides. Each function stands for a theorem: its contract is the theorem's statement.
+
+ghost use Rattle.verdict.specs.Judging.{AcceptanceIsDerivability, AcceptanceIsDerivabilityBelow};
+ghost use Rattle.verdict.specs.Uses.{UsesAreFree};
+ghost use Rattle.verdict.specs.Worked.{WorkedRows};
+
+/// Accepted are just the terms that have a derivation with their claims and nest at most 32 binders.
+pub fn acceptance_is_derivability() -> u8
+    ensures { AcceptanceIsDerivability }
+{
+    0
+}
+
+/// The same for a term below binders, in the context of their types.
+pub fn acceptance_is_derivability_below() -> u8
+    ensures { AcceptanceIsDerivabilityBelow }
+{
+    0
+}
+
+/// A term uses just its free variables.
+pub fn uses_are_free() -> u8
+    ensures { UsesAreFree }
+{
+    0
+}
+
+/// Worked terms and types get the answers that they should.
+pub fn worked_terms_are_judged() -> u8
+    ensures { WorkedRows }
+{
+    0
+}

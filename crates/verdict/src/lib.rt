@@ -1,0 +1,11 @@
+//! The verdict on a program: its faults, and the judging of a term as a definition on trees, with what it decides.
+#![tactic(auto)]
+
+mod deciding;
+mod faults;
+
+pub use deciding::{
+    acceptance_is_derivability, acceptance_is_derivability_below, uses_are_free,
+    worked_terms_are_judged,
+};
+pub use faults::CheckFault;
