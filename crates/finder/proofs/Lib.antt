@@ -1,0 +1,10 @@
+pub mod Asking
+pub mod Meaning
+pub mod Places
+pub mod Reduction
+pub mod Scans
+pub mod Search
+pub mod Spelling
+pub mod Standing
+pub mod Tests
+pub mod Working

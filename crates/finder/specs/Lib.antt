@@ -1,0 +1,7 @@
+pub mod Due
+pub mod Finding
+pub mod Laws
+pub mod Samples
+pub mod Search
+pub mod Steps
+pub mod Words

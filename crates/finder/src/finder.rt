@@ -1,0 +1,183 @@
+//! Finds the rule that applies to a running term, and the cell it applies at.
+
+ghost use Rattle.std.specs.Prelude.{◌≡◌, ◌+◌, ◌<◌, ◌≤◌, length, drop, slice_index_or};
+ghost use Rattle.calculus.specs.Letters.{allowed, arity};
+ghost use Rattle.calculus.specs.Reading.{term_at, TermsStand};
+ghost use Rattle.calculus.specs.Terms.{size, erased};
+ghost use Rattle.trees.specs.Reach.{ends};
+ghost use Rattle.finder.specs.Finding.{blank, end_or, tested, answer};
+ghost use Rattle.finder.specs.Search.{given, found};
+ghost use Rattle.finder.specs.Words.{spelt, operand_word, applied_of, branched_of, opened_of};
+
+use crate::works::{FindFault, Rule, Work};
+use calculus::{MOST_RUNNING_CELLS, TermCell, is_allowed};
+use trees::{Test, first_failing, reach};
+
+// Whether the ops from `at` on begin with the letters of a word.
+fn spells(cells: &[TermCell], at: usize, word: &[char]) -> bool
+    ensures { result ≡ spelt word.now (drop at cells.now) }
+{
+    let mut next = at;
+    for letter in word {
+        if next >= cells.len() {
+            return false;
+        }
+        if cells[next].op != *letter {
+            return false;
+        }
+        next += 1;
+    }
+    true
+}
+
+// The test of a known op with an argument that it allows.
+#[derive(Drop)]
+struct Allowed;
+
+impl Test<TermCell> for Allowed {
+    ghost holds = { λ _. allowed };
+
+    fn passes(&self, cell: TermCell) -> bool {
+        is_allowed(cell)
+    }
+}
+
+// Whether the tree at `at` is as many qubits as the gate of a number takes.
+fn are_operands(cells: &[TermCell], gate: u16, at: usize) -> bool
+    ensures { result ≡ spelt (operand_word gate) (drop at cells.now) }
+{
+    match gate {
+        5 | 6 => spells(cells, at, &['p', 'q', 'q']),
+        7 => spells(cells, at, &['p', 'q', 'p', 'q', 'q']),
+        _ => spells(cells, at, &['q']),
+    }
+}
+
+// The cell at `at`, or a blank one past the end.
+fn cell_at(cells: &[TermCell], at: usize) -> TermCell
+    ensures { result ≡ slice_index_or cells.now at blank }
+{
+    if at < cells.len() {
+        cells[at]
+    } else {
+        TermCell {
+            op: '\0',
+            argument: 0,
+            claim: 0,
+        }
+    }
+}
+
+fn given(fits: bool, rule: Rule) -> Option<Rule>
+    ensures { result ≡ given fits rule }
+{
+    if fits { Some(rule) } else { None }
+}
+
+// The rule for a value, by its first cell, applied to the value at `argument`.
+fn applied(function: TermCell, cells: &[TermCell], argument: usize) -> Option<Rule>
+    ensures { result ≡ applied_of function.op function.argument (drop argument cells.now) }
+{
+    match function.op {
+        'l' => Some(Rule::Function),
+        'n' => given(
+            spells(cells, argument, &['0']) || spells(cells, argument, &['1']),
+            Rule::Prepare,
+        ),
+        'm' => given(spells(cells, argument, &['q']), Rule::Read),
+        'g' => given(
+            are_operands(cells, function.argument, argument),
+            Rule::Gates,
+        ),
+        _ => None,
+    }
+}
+
+// The rule for a condition that is a value, by its first cell.
+fn branched(condition: TermCell) -> Option<Rule>
+    ensures { result ≡ branched_of condition.op }
+{
+    match condition.op {
+        '0' => Some(Rule::Else),
+        '1' => Some(Rule::Then),
+        _ => None,
+    }
+}
+
+// The rule for a let of a value, by its first cell.
+fn opened(pair: TermCell) -> Option<Rule>
+    ensures { result ≡ opened_of pair.op }
+{
+    given(pair.op == 'p', Rule::Pair)
+}
+
+/// One past the tree at `at`, or `at` itself where none stands there.
+pub fn past(cells: &[TermCell], at: usize) -> usize
+    ensures end { result ≡ end_or at (ends arity 1 (drop at cells.now) at) }
+    ensures on { at ≤ result }
+{
+    match reach(cells, at) {
+        Some(end) => end,
+        None => at,
+    }
+}
+
+// One past the tree at `at`, and what it waits for.
+fn work(cells: &[TermCell], at: usize) -> (usize, Work)
+    requires { TermsStand cells.now × (at < length cells.now) }
+    ensures { result ≡ (at + size (term_at cells.now at), found at (erased (term_at cells.now at))) }
+{
+    let part = cell_at(cells, at + 1);
+    match cells[at].op {
+        'l' => (past(cells, at), Work::Done),
+        'a' => {
+            let (middle, function) = work(cells, at + 1);
+            let (end, argument) = work(cells, middle);
+            let rule = applied(part, cells, middle);
+            (end, argument.or(function.or(Work::ruled(at, rule))))
+        }
+        'p' => {
+            let (middle, left) = work(cells, at + 1);
+            let (end, right) = work(cells, middle);
+            (end, left.or(right))
+        }
+        'd' => {
+            let (middle, pair) = work(cells, at + 1);
+            (past(cells, middle), pair.or(Work::ruled(at, opened(part))))
+        }
+        'i' => {
+            let (middle, condition) = work(cells, at + 1);
+            let end = past(cells, past(cells, middle));
+            (end, condition.or(Work::ruled(at, branched(part))))
+        }
+        _ => (at + 1, Work::Done),
+    }
+}
+
+// Tests that the cells may be a running term: not too many, each with an argument that its letter allows, exactly one tree.
+fn test_cells(cells: &[TermCell]) -> Result<(), FindFault>
+    ensures { result ≡ tested cells.now }
+{
+    if cells.len() > MOST_RUNNING_CELLS {
+        return Err(FindFault::TooManyCells(MOST_RUNNING_CELLS));
+    }
+    if let Some(cell) = first_failing(&Allowed, cells) {
+        return Err(FindFault::BadCell(cell));
+    }
+    let Some(end) = reach(cells, 0) else {
+        return Err(FindFault::NotWhole(0));
+    };
+    if end < cells.len() {
+        return Err(FindFault::NotWhole(end));
+    }
+    Ok(())
+}
+
+/// The rule that applies to a running term and the cell it applies at, or nothing for a value; claims are disregarded.
+pub fn find(cells: &[TermCell]) -> Result<Option<(Rule, usize)>, FindFault>
+    ensures { result ≡ answer cells.now }
+{
+    test_cells(cells)?;
+    let (_, found) = work(cells, 0);
+    found.told()
+}

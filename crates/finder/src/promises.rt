@@ -1,0 +1,18 @@
+//! What holds of every search. Each function stands for a theorem: its contract is the theorem's statement.
+
+ghost use Rattle.finder.specs.Laws.{SearchIsReduction};
+ghost use Rattle.finder.specs.Samples.{SamplesHold};
+
+/// The finder answers nothing exactly for values, a rule and a cell exactly where the calculus makes a step, and else the cell where the search ends.
+pub fn search_is_reduction() -> u8
+    ensures { SearchIsReduction }
+{
+    0
+}
+
+/// Short running terms get the answers that stand beside them.
+pub fn samples_are_answered() -> u8
+    ensures { SamplesHold }
+{
+    0
+}
