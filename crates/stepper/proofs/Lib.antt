@@ -1,3 +1,10 @@
+pub mod Allowed
+pub mod Claims
+pub mod Dropped
 pub mod Names
-pub mod Scans
+pub mod Parts
+pub mod Puts
+pub mod Steps
+pub mod Substitution
 pub mod Tables
+pub mod Terms

@@ -4,7 +4,7 @@ use Rattle.std.proofs.lemmas.Bool.Decides.{nat_tests}
 use Rattle.std.proofs.lemmas.List.{drop_more}
 use Rattle.std.proofs.lemmas.Bool.{eq-eqb, ne_eqb, cases_eq}
 use Rattle.calculus.specs.declared.cells.TermCell.{TermCell}
-use Rattle.stepper.specs.Finding.{blank}
+use Rattle.finder.specs.Finding.{blank}
 use Rattle.stepper.specs.Naming.{name_of, is_name, names}
 
 pub names_before : (cs : List TermCell) (i : ℕ) (r : Option ℕ) → 0 < i → i ≤ length cs → r ≡ name_of (get_or cs (i - 1) blank)

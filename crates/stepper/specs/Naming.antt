@@ -1,5 +1,6 @@
 -- The qubits that cells name.
-use Rattle.std.specs.Prelude.{ℕ, Bool, true, false, cond, ◌&&◌, List, [], ◌∷◌, Some, None, Option, ◌==◌, nat_lt}
+use Rattle.std.specs.Prelude.{ℕ, Bool, true, false, cond, not, ◌&&◌, List, [], ◌∷◌, Some, None, Option, filter, ◌==◌, nat_lt}
+use Rattle.std.specs.List.{range_with_len}
 use Rattle.calculus.specs.declared.cells.TermCell.{TermCell}
 
 -- a q cell names the handle that is its argument
@@ -14,3 +15,7 @@ is_name (Some k) h = k == h
 abbrev pub names : List TermCell → ℕ → Bool
 names [] h = false
 names (c ∷ cs) h = cond (is_name (name_of c) h) true (names cs h)
+
+-- the handles that are named before and not after, the lowest first
+abbrev pub dropped : (ℕ → Bool) → (ℕ → Bool) → List ℕ
+dropped before after = filter (λ h. before h && not (after h)) (range_with_len 0 32)

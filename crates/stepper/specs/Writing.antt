@@ -1,5 +1,5 @@
 -- Cells written into a table.
-use Rattle.std.specs.Prelude.{ℕ, ◌+◌, ◌-◌, true, false, cond, ◌&&◌, List, [], ◌++◌, length, take, drop, Some, None, Option, nat_le}
+use Rattle.std.specs.Prelude.{◌≡◌, ℕ, ◌+◌, ◌≤◌, true, false, cond, ◌&&◌, List, ◌++◌, length, take, drop, Some, None, Option, nat_le}
 use Rattle.calculus.specs.declared.cells.TermCell.{TermCell}
 use Rattle.stepper.specs.declared.writing.Answer.{Answer}
 use Rattle.stepper.specs.declared.writing.Answer.TheVariants.{Nothing, Handle, Outcome}
@@ -15,10 +15,6 @@ answer_cell (Handle h) = running_cell 113 h
 answer_cell (Outcome true) = running_cell 49 0
 answer_cell (Outcome false) = running_cell 48 0
 
--- the cells from one place to another, if the table has both
-abbrev pub part_of : List TermCell → ℕ → ℕ → List TermCell
-part_of cs from to = cond (nat_le from to && nat_le to (length cs)) (take (to - from) (drop from cs)) []
-
 -- the number of cells after some are put behind the first `len`, if a running term may have so many
 abbrev pub put_count : ℕ → List TermCell → Option ℕ
 put_count len cs = cond (nat_le (len + length cs) 1024) (Some (len + length cs)) None
@@ -30,3 +26,20 @@ overwritten table at cs = take at table ++ (cs ++ drop (at + length cs) table)
 -- the table with the cells put behind the first `len`; one that is too short, or that would hold too many, stays
 abbrev pub put_cells : List TermCell → ℕ → List TermCell → List TermCell
 put_cells table len cs = cond (nat_le (len + length cs) 1024) (cond (nat_le (len + length cs) (length table)) (overwritten table len cs) table) table
+
+-- cells that a running term may have are put behind the first `len` of a table with room for them
+abbrev pub IsPut : List TermCell → List TermCell → ℕ → List TermCell → Type 0
+IsPut old new len cs = len + length cs ≤ 1024 → len + length cs ≤ length old → new ≡ overwritten old len cs
+
+-- a place beside a count, if there is one
+abbrev pub placed : ℕ → Option ℕ → Option (ℕ × ℕ)
+placed p None = None
+placed p (Some n) = Some (p, n)
+
+-- how many cells there are, if a running term may have so many
+abbrev pub counted : List TermCell → Option ℕ
+counted cs = cond (nat_le (length cs) 1024) (Some (length cs)) None
+
+-- the table with the cells at its front and its rest as it was; one that is too short, or would begin with too many cells, stays
+abbrev pub fronted : List TermCell → List TermCell → List TermCell
+fronted cs table = cond (nat_le (length cs) 1024 && nat_le (length cs) (length table)) (cs ++ drop (length cs) table) table

@@ -1,12 +1,10 @@
-//! Steps of running terms, on their cells: which rule applies where, the next term, and the qubits that a term names.
+//! Steps of running terms, on their cells: the next term of a rule, and the qubits that a term names.
 #![tactic(auto)]
 
-mod finder;
 mod naming;
-mod works;
+mod promises;
 mod writing;
 
-pub use finder::find;
 pub use naming::named;
-pub use works::{FindFault, Rule};
+pub use promises::{cells_name_what_terms_name, samples_are_stepped, steps_are_made_on_cells};
 pub use writing::{Answer, next};

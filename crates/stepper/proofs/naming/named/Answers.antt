@@ -1,6 +1,6 @@
 use Rattle.std.proofs.Common.{◌-◌, true, false, cond, eqb, length, get_or, Some, None, sym, refl, ap, ◌∙◌, arith, length-set}
 use Rattle.std.proofs.lemmas.List.{drop_all, get_or-replicate}
-use Rattle.stepper.specs.Finding.{blank}
+use Rattle.finder.specs.Finding.{blank}
 use Rattle.stepper.specs.Naming.{names}
 use Rattle.stepper.proofs.Names.{names_before, name_below, set_name}
 use Rattle.stepper.proofs.naming.named.Goals as goal

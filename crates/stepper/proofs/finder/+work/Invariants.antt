@@ -1,5 +1,0 @@
-use Rattle.std.proofs.Common.{◌-◌, length}
-use Rattle.stepper.proofs.finder.+work.Given as goal
-
-abbrev pub decreases-work : goal.decreases-work
-decreases-work l = length l.cells.now - l.at
