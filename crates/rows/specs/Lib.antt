@@ -1,0 +1,11 @@
+pub mod Members
+pub mod Places
+pub mod Asking
+pub mod Refusing
+pub mod Stepping
+pub mod Doing
+pub mod Rows
+pub mod Sound
+pub mod Bounds
+pub mod Making
+pub mod Sample
