@@ -1,1 +1,14 @@
-pub mod Copies
+pub mod Accepted
+pub mod Advancing
+pub mod Copied
+pub mod Dropping
+pub mod Running
+pub mod Shots
+pub mod Keeping
+pub mod Loaded
+pub mod Asked
+pub mod Stepped
+pub mod Collected
+pub mod Stepping
+pub mod Ran
+pub mod Calls

@@ -1,2 +1,10 @@
+pub mod Asking
 pub mod Faults
+pub mod Keeping
+pub mod Letting
 pub mod Loading
+pub mod Running
+pub mod Shots
+pub mod Stepping
+pub mod Tables
+pub mod Unloading

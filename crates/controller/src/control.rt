@@ -1,7 +1,16 @@
 //! One shot with its register.
 
-ghost use Rattle.std.specs.Prelude.{◌≡◌, ◌≤◌, MatchResult, OnErr};
-ghost use Rattle.controller.specs.Loading.{LoadAnswer, first_unmade};
+ghost use Rattle.std.specs.Prelude.{◌≡◌, length, is_err, MatchResult, OnErr};
+ghost use Rattle.rows.specs.Members.{step, run, collect, abandon};
+ghost use Rattle.registers.specs.Meaning.{after_clear};
+ghost use Rattle.controller.specs.Asking.{told};
+ghost use Rattle.controller.specs.Keeping.{Kept, KeptBy, LoadKeptBy};
+ghost use Rattle.controller.specs.Loading.{load_answer};
+ghost use Rattle.controller.specs.Running.{RunAnswer, standing};
+ghost use Rattle.controller.specs.Shots.{held, nothing_held, program_held};
+ghost use Rattle.controller.specs.Stepping.{StepLeaves, count_made, step_made, placed};
+ghost use Rattle.controller.specs.Unloading.{abandon_answer, collect_answer};
+ghost use Rattle.controller.specs.Tables.{begun_with};
 
 use crate::faults::{Refusal, Stop};
 use crate::shot::Shot;
@@ -19,7 +28,9 @@ pub struct Controller<R: Register> {
 impl<R: Register> Controller<R> {
     /// Takes a register and clears it; nothing is loaded.
     pub fn new(mut register: R) -> Controller<R>
-        ensures { (result.shot.len ≡ 0) × (result.shot.steps ≡ 0) }
+        ensures held { held result.shot ≡ nothing_held }
+        ensures register { R.Register.meaning result.register ≡ after_clear R.Register.changes (R.Register.meaning register) }
+        ensures kept { Kept R.Register.changes (held result.shot) (R.Register.meaning result.register) }
     {
         register.clear();
         Controller {
@@ -30,22 +41,31 @@ impl<R: Register> Controller<R> {
 
     /// Loads an accepted program, and answers the cell count of its term.
     pub fn load(&mut self, program: &Accepted) -> Result<usize, Refusal>
-        ensures answer { LoadAnswer self.old.shot.len self.old.shot.steps (first_unmade (R.Register.meaning self.old.register).makes program.now.terms.now) result }
-        ensures refused { OnErr result (self.new ≡ self.old) }
+        ensures answer { result ≡ load_answer (R.Register.meaning self.old.register).makes (held self.old.shot) program.now.terms.now }
+        ensures state { MatchResult result
+            (λ _. (held self.new.shot ≡ program_held program.now.types.now program.now.terms.now) × (self.new.register ≡ self.old.register))
+            (λ _. self.new ≡ self.old) }
+        ensures kept { LoadKeptBy R.Register.changes R.Register.meaning program.now.types.now program.now.terms.now self.old.shot self.old.register self.new.shot self.new.register (is_err result) }
     {
         self.shot.load(&self.register, program)
     }
 
     /// Makes one step, after which the work table starts with the next term; answers its cell count.
     pub fn step(&mut self, work: &mut [TermCell]) -> Result<usize, Refusal>
-        ensures { MatchResult result (λ n. n ≤ 1024) (λ _. (self.new ≡ self.old) × (work.new ≡ work.old)) }
+        ensures answer { result ≡ placed (held self.old.shot).steps (count_made (step_made R.Register.changes (told R.Register.meaning R.Register.depth R.Register.fresh R.Register.outcome self.old.register) (held self.old.shot) (length work.old))) }
+        ensures state { StepLeaves R.Register.meaning (step_made R.Register.changes (told R.Register.meaning R.Register.depth R.Register.fresh R.Register.outcome self.old.register) (held self.old.shot) (length work.old))
+            self.old.shot self.new.shot self.old.register self.new.register work.old work.new }
+        ensures kept { KeptBy R.Register.changes R.Register.meaning (step (length work.old)) self.old.shot self.old.register self.new.shot self.new.register (is_err result) }
     {
         self.shot.step(&mut self.register, work)
     }
 
     /// Makes steps until the running term is a value, the budget is spent or a step is refused; answers those made, and why it stopped.
     pub fn run(&mut self, budget: u64, work: &mut [TermCell]) -> Result<(u64, Stop), Refusal>
-        ensures { MatchResult result (λ p. p.0 ≤ budget) (λ _. (self.new ≡ self.old) × (work.new ≡ work.old)) }
+        ensures answer { RunAnswer R.Register.changes budget
+            (standing R.Register.meaning self.old.shot self.old.register work.old) (standing R.Register.meaning self.new.shot self.new.register work.new) result }
+        ensures refused { OnErr result ((self.new ≡ self.old) × (work.new ≡ work.old)) }
+        ensures kept { KeptBy R.Register.changes R.Register.meaning (run budget (length work.old)) self.old.shot self.old.register self.new.shot self.new.register (is_err result) }
     {
         self.shot.run(&mut self.register, budget, work)
     }
@@ -56,16 +76,25 @@ impl<R: Register> Controller<R> {
         value: &mut [TermCell],
         kinds: &mut [TypeCell],
     ) -> Result<(usize, usize), Refusal>
-        ensures { MatchResult result
-            (λ _. self.new.shot.len ≡ 0)
-            (λ _. (self.new ≡ self.old) × (value.new ≡ value.old) × (kinds.new ≡ kinds.old)) }
+        ensures answer { result ≡ collect_answer (held self.old.shot) (length value.old) (length kinds.old) }
+        ensures state { MatchResult result
+            (λ _. (held self.new.shot ≡ nothing_held) × (R.Register.meaning self.new.register ≡ after_clear R.Register.changes (R.Register.meaning self.old.register)))
+            (λ _. self.new ≡ self.old) }
+        ensures tables { MatchResult result
+            (λ _. (value.new ≡ begun_with (held self.old.shot).cells value.old) × (kinds.new ≡ begun_with (held self.old.shot).kinds kinds.old))
+            (λ _. (value.new ≡ value.old) × (kinds.new ≡ kinds.old)) }
+        ensures kept { KeptBy R.Register.changes R.Register.meaning (collect (length value.old) (length kinds.old)) self.old.shot self.old.register self.new.shot self.new.register (is_err result) }
     {
         self.shot.collect(&mut self.register, value, kinds)
     }
 
     /// Clears the register and unloads.
     pub fn abandon(&mut self) -> Result<(), Refusal>
-        ensures { MatchResult result (λ _. self.new.shot.len ≡ 0) (λ _. self.new ≡ self.old) }
+        ensures answer { result ≡ abandon_answer (held self.old.shot) }
+        ensures state { MatchResult result
+            (λ _. (held self.new.shot ≡ nothing_held) × (R.Register.meaning self.new.register ≡ after_clear R.Register.changes (R.Register.meaning self.old.register)))
+            (λ _. self.new ≡ self.old) }
+        ensures kept { KeptBy R.Register.changes R.Register.meaning abandon self.old.shot self.old.register self.new.shot self.new.register (is_err result) }
     {
         self.shot.abandon(&mut self.register)
     }

@@ -3,7 +3,9 @@
 
 mod asking;
 mod control;
+mod ending;
 mod faults;
+mod loading;
 mod shot;
 mod steps;
 

@@ -2,6 +2,7 @@
 
 ghost use Rattle.std.specs.Prelude.{◌≡◌, ◌≤◌, length, take};
 
+use crate::faults::{ControllerFault, Refusal};
 use calculus::{MOST_RUNNING_CELLS, MOST_TYPE_CELLS, TermCell, TypeCell};
 
 /// A running term of `len` cells, none where nothing is loaded, with the cells of its type and the steps made since the load.
@@ -18,30 +19,21 @@ pub struct Shot {
     ghost kinds_few: { kind_len ≤ 256 },
 }
 
-const BLANK: TermCell = TermCell {
-    op: '\0',
-    argument: 0,
-    claim: 0,
-};
-
 impl Shot {
-    /// Nothing loaded.
-    pub fn new() -> Shot
-        ensures { (result.len ≡ 0) × (result.steps ≡ 0) }
-    {
-        Shot {
-            cells: [BLANK; MOST_RUNNING_CELLS],
-            len: 0,
-            kinds: [TypeCell { kind: '\0' }; MOST_TYPE_CELLS],
-            kind_len: 0,
-            steps: 0,
-        }
-    }
-
     /// The cells of the running term.
     pub fn running(&self) -> &[TermCell]
         ensures { result.now ≡ take self.now.len self.now.cells }
     {
         &self.cells[0..self.len]
+    }
+
+    /// The refusal of a call, with the steps made since the load.
+    pub fn refusal(&self, fault: ControllerFault) -> Refusal
+        ensures { result ≡ record { fault = fault; place = self.now.steps } }
+    {
+        Refusal {
+            fault,
+            place: self.steps,
+        }
     }
 }

@@ -1,59 +1,66 @@
-//! Loading a program, and its steps.
+//! The steps of a running term.
 
-ghost use Rattle.std.specs.Prelude.{◌≡◌, ◌<◌, ◌≤◌, map, length, Ok, Err, MatchResult, OnErr};
+ghost use Rattle.std.specs.Prelude.{◌≡◌, ◌<◌, ◌≤◌, length, take, Ok, Err, OnErr};
+ghost use Rattle.controller.specs.Asking.{told};
 ghost use Rattle.controller.specs.Faults.{ready_answer};
-ghost use Rattle.controller.specs.Loading.{LoadAnswer, claiming_nothing, first_unmade, is_made};
+ghost use Rattle.controller.specs.Running.{RunAnswer, standing};
+ghost use Rattle.controller.specs.Shots.{held};
+ghost use Rattle.controller.specs.Stepping.{StepLeaves, advanced, taken, one_more, count_made, step_made, placed};
+ghost use Rattle.controller.specs.Letting.{dropped, released_all};
+ghost use Rattle.controller.specs.Tables.{begun_with, front_of};
+ghost use Rattle.controller.specs.Unloading.{is_value};
+ghost use Rattle.stepper.specs.Naming.{names};
+ghost use Rattle.stepper.specs.Next.{next_cells};
 
 use crate::asking::{ask, let_go_unnamed};
 use crate::faults::{ControllerFault, Refusal, Stop};
 use crate::shot::Shot;
-use calculus::{Gate, MOST_RUNNING_CELLS, TermCell, TypeCell};
-use checker::Accepted;
+use calculus::{MOST_RUNNING_CELLS, TermCell};
+use finder::{FindFault, Rule, find};
 use registers::Register;
-use stepper::{Answer, FindFault, Rule, find, named, next};
-use trees::{Test, copy, first_failing};
+use stepper::{Answer, named, next};
 
-// The test of a cell that names no gate, or one that the register makes.
-#[derive(Drop)]
-struct Made<'a, R: Register>(&'a R);
-
-impl<'a, R: Register> Test<TermCell> for Made<'a, R> {
-    ghost holds = { λ s. is_made (R.Register.meaning s.0.now).makes };
-
-    fn passes(&self, cell: TermCell) -> bool {
-        if cell.op != 'g' {
-            return true;
-        }
-        match Gate::from_number(cell.argument) {
-            Some(gate) => self.0.makes(gate),
-            None => false,
-        }
+// Whether the finder found a value.
+fn is_value(found: &Result<Option<(Rule, usize)>, FindFault>) -> bool
+    ensures { result ≡ is_value found.now }
+{
+    match found {
+        Ok(None) => true,
+        _ => false,
     }
 }
 
-// Has every cell claim nothing.
-fn forget_claims(cells: &mut [TermCell])
-    ensures { cells.new ≡ map claiming_nothing cells.old }
+// Writes the next term to the front of a work table, and answers its cell count.
+fn write_next(
+    cells: &[TermCell],
+    rule: Rule,
+    at: usize,
+    answer: Answer,
+    work: &mut [TermCell],
+) -> usize
+    requires { (1024 ≤ length work.old) × (length (next_cells cells.now rule at answer) ≤ 1024) }
+    ensures count { result ≡ length (next_cells cells.now rule at answer) }
+    ensures work { work.new ≡ begun_with (next_cells cells.now rule at answer) work.old }
+    ensures front { front_of work.new result ≡ next_cells cells.now rule at answer }
 {
-    for cell in cells.iter_mut() {
-        cell.claim = 0;
+    next(cells, rule, at, answer, work).unwrap_or(0)
+}
+
+// The cells at the front of a table, or none where it has not so many.
+fn front(table: &[TermCell], len: usize) -> &[TermCell]
+    ensures { result.now ≡ front_of table.now len }
+{
+    if len <= table.len() {
+        &table[0..len]
+    } else {
+        &[]
     }
 }
 
 impl Shot {
-    // The refusal of a call, with the steps made since the load.
-    fn refusal(&self, fault: ControllerFault) -> Refusal
-        ensures { result ≡ record { fault = fault; place = self.now.steps } }
-    {
-        Refusal {
-            fault,
-            place: self.steps,
-        }
-    }
-
     // Whether a step may begin: something is loaded, and the work table is long enough.
     fn ready(&self, work: &[TermCell]) -> Result<(), ControllerFault>
-        ensures { result ≡ ready_answer self.now.len (length work.now) }
+        ensures { result ≡ ready_answer (length (held self.now).cells) (length work.now) }
     {
         if self.len == 0 {
             return Err(ControllerFault::NothingLoaded);
@@ -64,36 +71,42 @@ impl Shot {
         Ok(())
     }
 
-    /// Copies an accepted program's term, which claims nothing as it runs, and its root's type; answers the cell count.
-    pub fn load<R: Register>(&mut self, register: &R, program: &Accepted) -> Result<usize, Refusal>
-        ensures answer { LoadAnswer self.old.len self.old.steps (first_unmade (R.Register.meaning register.now).makes program.now.terms.now) result }
-        ensures refused { OnErr result (self.new ≡ self.old) }
+    // The running term becomes that of some cells, by one step more.
+    fn replace(&mut self, cells: &[TermCell])
+        requires { length cells.now ≤ 1024 }
+        ensures { held self.new ≡ record { cells = cells.now; kinds = (held self.old).kinds; steps = one_more (held self.old).steps } }
     {
-        if self.len > 0 {
-            return Err(self.refusal(ControllerFault::AlreadyLoaded));
-        }
-        let terms = program.terms();
-        if let Some(cell) = first_failing(&Made(register), terms) {
-            return Err(Refusal {
-                fault: ControllerFault::GateNotMade,
-                place: cell as u64,
-            });
-        }
-        self.len = copy(terms, 0, &mut self.cells).unwrap_or(0);
-        forget_claims(&mut self.cells);
-        let root = match terms {
-            [root, ..] => root.claim as usize,
-            [] => 0,
-        };
-        self.kind_len = copy(program.types(), root, &mut self.kinds).unwrap_or(0);
-        self.steps = 0;
-        Ok(self.len)
+        self.cells[0..cells.len()].copy_from_slice(cells);
+        self.len = cells.len();
+        self.steps = self.steps.saturating_add(1);
     }
-}
 
-impl Shot {
-    // Makes the step of a rule at a cell: the next term is counted, the register asked, the term written to the work table and
-    // copied from there, and the qubits that it names no more are let go.
+    // Goes on to the next term, with the register's answer: it is written to the work table and taken from there, and the qubits
+    // that it names no more are let go. Answers its cell count.
+    fn go_on<R: Register>(
+        &mut self,
+        register: &mut R,
+        rule: Rule,
+        at: usize,
+        answer: Answer,
+        work: &mut [TermCell],
+    ) -> usize
+        requires { (1024 ≤ length work.old) × (length (next_cells (held self.old).cells rule at answer) ≤ 1024) }
+        ensures count { result ≡ length (next_cells (held self.old).cells rule at answer) }
+        ensures shot { held self.new ≡ record { cells = next_cells (held self.old).cells rule at answer; kinds = (held self.old).kinds; steps = one_more (held self.old).steps } }
+        ensures register { R.Register.meaning register.new ≡ released_all R.Register.changes
+            (dropped (names (held self.old).cells) (names (next_cells (held self.old).cells rule at answer))) (R.Register.meaning register.old) }
+        ensures work { work.new ≡ begun_with (next_cells (held self.old).cells rule at answer) work.old }
+    {
+        let before = named(self.running());
+        let len = write_next(self.running(), rule, at, answer, work);
+        let cells = front(work, len);
+        let_go_unnamed(register, &before, &named(cells));
+        self.replace(cells);
+        len
+    }
+
+    // Makes the step of a rule at a cell: the next term is counted before the register is asked.
     fn advance<R: Register>(
         &mut self,
         register: &mut R,
@@ -102,23 +115,17 @@ impl Shot {
         work: &mut [TermCell],
     ) -> Result<usize, ControllerFault>
         requires { 1024 ≤ length work.old }
-        ensures { MatchResult result (λ n. n ≤ 1024) (λ _. (self.new ≡ self.old) × (register.new ≡ register.old) × (work.new ≡ work.old)) }
+        ensures answer { result ≡ count_made (advanced R.Register.changes (told R.Register.meaning R.Register.depth R.Register.fresh R.Register.outcome register.old) (held self.old).cells rule at) }
+        ensures state { StepLeaves R.Register.meaning (advanced R.Register.changes (told R.Register.meaning R.Register.depth R.Register.fresh R.Register.outcome register.old) (held self.old).cells rule at) self.old self.new register.old register.new work.old work.new }
     {
         if at >= self.len {
             return Err(ControllerFault::NoRule);
         }
-        let running = &self.cells[0..self.len];
-        let Some(len) = next(running, rule, at, Answer::Nothing, &mut []) else {
+        if next(self.running(), rule, at, Answer::Nothing, &mut []).is_none() {
             return Err(ControllerFault::TooLong);
-        };
-        let answer = ask(register, running, rule, at)?;
-        let before = named(running);
-        let _ = next(running, rule, at, answer, work);
-        let_go_unnamed(register, &before, &named(&work[0..len]));
-        self.cells[0..len].copy_from_slice(&work[0..len]);
-        self.len = len;
-        self.steps = self.steps.saturating_add(1);
-        Ok(len)
+        }
+        let answer = ask(register, self.running(), rule, at)?;
+        Ok(self.go_on(register, rule, at, answer, work))
     }
 
     // The step of what was found in the running term.
@@ -129,7 +136,8 @@ impl Shot {
         work: &mut [TermCell],
     ) -> Result<usize, ControllerFault>
         requires { 1024 ≤ length work.old }
-        ensures { MatchResult result (λ n. n ≤ 1024) (λ _. (self.new ≡ self.old) × (register.new ≡ register.old) × (work.new ≡ work.old)) }
+        ensures answer { result ≡ count_made (taken R.Register.changes (told R.Register.meaning R.Register.depth R.Register.fresh R.Register.outcome register.old) (held self.old).cells found) }
+        ensures state { StepLeaves R.Register.meaning (taken R.Register.changes (told R.Register.meaning R.Register.depth R.Register.fresh R.Register.outcome register.old) (held self.old).cells found) self.old self.new register.old register.new work.old work.new }
     {
         match found {
             Ok(Some((rule, at))) => self.advance(register, rule, at, work),
@@ -144,7 +152,8 @@ impl Shot {
         register: &mut R,
         work: &mut [TermCell],
     ) -> Result<usize, Refusal>
-        ensures { MatchResult result (λ n. n ≤ 1024) (λ _. (self.new ≡ self.old) × (register.new ≡ register.old) × (work.new ≡ work.old)) }
+        ensures answer { result ≡ placed (held self.old).steps (count_made (step_made R.Register.changes (told R.Register.meaning R.Register.depth R.Register.fresh R.Register.outcome register.old) (held self.old) (length work.old))) }
+        ensures state { StepLeaves R.Register.meaning (step_made R.Register.changes (told R.Register.meaning R.Register.depth R.Register.fresh R.Register.outcome register.old) (held self.old) (length work.old)) self.old self.new register.old register.new work.old work.new }
     {
         if let Err(fault) = self.ready(work) {
             return Err(self.refusal(fault));
@@ -155,17 +164,6 @@ impl Shot {
             Err(fault) => Err(self.refusal(fault)),
         }
     }
-}
-
-impl Shot {
-    // Nothing is loaded any more.
-    fn unload(&mut self)
-        ensures { (self.new.len ≡ 0) × (self.new.steps ≡ 0) }
-    {
-        self.len = 0;
-        self.kind_len = 0;
-        self.steps = 0;
-    }
 
     /// Makes steps until the running term is a value, the budget is spent or a step is refused; answers those made, and why it stopped.
     pub fn run<R: Register>(
@@ -174,7 +172,8 @@ impl Shot {
         budget: u64,
         work: &mut [TermCell],
     ) -> Result<(u64, Stop), Refusal>
-        ensures { MatchResult result (λ p. p.0 ≤ budget) (λ _. (self.new ≡ self.old) × (register.new ≡ register.old) × (work.new ≡ work.old)) }
+        ensures answer { RunAnswer R.Register.changes budget (standing R.Register.meaning self.old register.old work.old) (standing R.Register.meaning self.new register.new work.new) result }
+        ensures refused { OnErr result ((self.new ≡ self.old) × (register.new ≡ register.old) × (work.new ≡ work.old)) }
     {
         if let Err(fault) = self.ready(work) {
             return Err(self.refusal(fault));
@@ -182,63 +181,20 @@ impl Shot {
         let mut made = 0;
         loop {
             let found = find(self.running());
-            if let Ok(None) = found {
+            if is_value(&found) {
                 return Ok((made, Stop::Value));
             }
             if made >= budget {
                 return Ok((made, Stop::Budget));
             }
             if let Err(fault) = self.take_step(register, found, work) {
-                return Ok((
-                    made,
-                    Stop::Refused {
-                        fault,
-                        steps: self.steps,
-                    },
-                ));
+                let stop = Stop::Refused {
+                    fault,
+                    steps: self.steps,
+                };
+                return Ok((made, stop));
             }
             made += 1;
         }
-    }
-
-    /// Writes the value and its type at the front of two tables, clears the register and unloads; answers both counts.
-    pub fn collect<R: Register>(
-        &mut self,
-        register: &mut R,
-        value: &mut [TermCell],
-        kinds: &mut [TypeCell],
-    ) -> Result<(usize, usize), Refusal>
-        ensures { MatchResult result
-            (λ _. self.new.len ≡ 0)
-            (λ _. (self.new ≡ self.old) × (register.new ≡ register.old) × (value.new ≡ value.old) × (kinds.new ≡ kinds.old)) }
-    {
-        if self.len == 0 {
-            return Err(self.refusal(ControllerFault::NothingLoaded));
-        }
-        let Ok(None) = find(self.running()) else {
-            return Err(self.refusal(ControllerFault::NoValue));
-        };
-        let len = self.len;
-        let kind_len = self.kind_len;
-        if value.len() < len || kinds.len() < kind_len {
-            return Err(self.refusal(ControllerFault::ShortTables));
-        }
-        value[0..len].copy_from_slice(&self.cells[0..len]);
-        kinds[0..kind_len].copy_from_slice(&self.kinds[0..kind_len]);
-        register.clear();
-        self.unload();
-        Ok((len, kind_len))
-    }
-
-    /// Clears the register and unloads.
-    pub fn abandon<R: Register>(&mut self, register: &mut R) -> Result<(), Refusal>
-        ensures { MatchResult result (λ _. self.new.len ≡ 0) (λ _. (self.new ≡ self.old) × (register.new ≡ register.old)) }
-    {
-        if self.len == 0 {
-            return Err(self.refusal(ControllerFault::NothingLoaded));
-        }
-        register.clear();
-        self.unload();
-        Ok(())
     }
 }

@@ -1,6 +1,6 @@
 use Rattle.std.proofs.Common.{◌≡◌, ◌++◌, map, take, drop}
-use Rattle.controller.specs.Loading.{claiming_nothing}
-use Rattle.controller.proofs.steps.forget_claims.Given as goal
+use Rattle.controller.specs.Shots.{claiming_nothing}
+use Rattle.controller.proofs.loading.forget_claims.Given as goal
 
 abbrev pub invariant-loop-cell : goal.invariant-loop-cell
 invariant-loop-cell l = l.cells ≡ map claiming_nothing (take l.cell-index l.initial.cells) ++ drop l.cell-index l.initial.cells

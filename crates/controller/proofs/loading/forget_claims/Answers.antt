@@ -1,8 +1,8 @@
 use Rattle.std.proofs.Common.{rules}
 use Rattle.std.proofs.lemmas.List.Edits.{map_over_more}
 use Rattle.std.proofs.lemmas.List.{take_all, drop_all}
-use Rattle.controller.specs.Loading.{claiming_nothing}
-use Rattle.controller.proofs.steps.forget_claims.Goals as goal
+use Rattle.controller.specs.Shots.{claiming_nothing}
+use Rattle.controller.proofs.loading.forget_claims.Goals as goal
 
 pub loop-cell-preserved : goal.loop-cell-preserved
 loop-cell-preserved c = search (rules, map_over_more claiming_nothing)

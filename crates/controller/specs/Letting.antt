@@ -1,0 +1,18 @@
+-- The qubits that a step lets go.
+use Rattle.std.specs.Prelude.{ℕ, Bool, false, cond, not, ◌&&◌, List, [], ◌∷◌, slice_index_or}
+use Rattle.std.specs.List.{filter, range_with_len}
+use Rattle.registers.specs.Meaning.{Meaning, Changes, after_let_go}
+
+-- the handles that were named before and are not after, rising
+abbrev pub dropped : (ℕ → Bool) → (ℕ → Bool) → List ℕ
+dropped before after = filter (λ h. before h && not (after h)) (range_with_len 0 32)
+
+module _ {C : Type 0} (changes : Changes C) where
+  -- the register after letting go of a handle; one that is not live is refused, which changes nothing
+  abbrev pub released : Meaning C → ℕ → Meaning C
+  released m h = cond (slice_index_or m.live h false) (after_let_go changes m h) m
+
+  -- the register after letting go of some, one after the other
+  abbrev pub released_all : List ℕ → Meaning C → Meaning C
+  released_all [] m = m
+  released_all (h ∷ hs) m = released_all hs (released m h)

@@ -1,0 +1,26 @@
+-- What abandoning and collecting answer, and what collecting writes.
+use Rattle.std.specs.Prelude.{ℕ, Bool, true, false, cond, not, ◌||◌, length, Some, None, Ok, Err, Option, Result, nat_lt}
+use Rattle.finder.specs.declared.works.Rule.{Rule}
+use Rattle.finder.specs.declared.works.FindFault.{FindFault}
+use Rattle.finder.specs.Finding.{answer}
+use Rattle.controller.specs.declared.faults.ControllerFault.TheVariants.{NothingLoaded, NoValue, ShortTables}
+use Rattle.controller.specs.declared.faults.Refusal.{Refusal}
+use Rattle.controller.specs.Faults.{refused}
+use Rattle.controller.specs.Shots.{Held, is_loaded}
+
+abbrev pub abandon_answer : Held → Result (Unit {0}) Refusal
+abandon_answer h = cond (is_loaded h) (Ok tt) (refused NothingLoaded h.steps)
+
+-- the finder's answer for a value
+abbrev pub is_value : Result (Option (Rule × ℕ)) FindFault → Bool
+is_value (Ok None) = true
+is_value (Ok (Some x)) = false
+is_value (Err f) = false
+
+-- both counts, for tables of so many places
+abbrev pub collect_answer : Held → ℕ → ℕ → Result (ℕ × ℕ) Refusal
+collect_answer h room kinds_room =
+    cond (not (is_loaded h)) (refused NothingLoaded h.steps)
+    (cond (not (is_value (answer h.cells))) (refused NoValue h.steps)
+    (cond (nat_lt room (length h.cells) || nat_lt kinds_room (length h.kinds)) (refused ShortTables h.steps)
+    (Ok (length h.cells, length h.kinds))))
