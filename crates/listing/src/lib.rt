@@ -2,7 +2,9 @@
 #![tactic(auto)]
 
 mod lines;
+mod promises;
 mod shots;
 
 pub use lines::listing;
+pub use promises::{listings_are_read_back, samples_are_listed};
 pub use shots::{Shot, play};

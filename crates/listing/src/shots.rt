@@ -1,12 +1,14 @@
-//! Plays a shot: reads, checks and loads a program, runs it on a tape and collects its value.
+//! Plays a shot: reads a program and plays a row on a tape: the program is checked and loaded, runs, and its value is collected.
 
-ghost use Rattle.std.specs.Prelude.{◌≡◌, ◌≤◌, length, IfOk, vec_len};
+ghost use Rattle.std.specs.Prelude.{◌≡◌, IfOk};
+ghost use Rattle.controller.specs.Faults.{fault_number};
+ghost use Rattle.listing.specs.Playing.{alternating, before_empty};
 
 use calculus::{MOST_RUNNING_CELLS, MOST_TERM_CELLS, MOST_TYPE_CELLS, TermCell, TypeCell};
-use checker::{Accepted, check};
-use controller::{Controller, Refusal, Stop};
+use controller::{Refusal, Stop};
+use player::{Reply, Turn, play as play_row};
 use reader::read;
-use registers::{Entry, Register, Tape};
+use registers::{Entry, Tape};
 use std::alloc::{AllocError, Global};
 
 /// Steps that a shot makes at most.
@@ -46,7 +48,7 @@ const BLANK_TYPE: TypeCell = TypeCell { kind: '\0' };
 
 // The outcomes of the tape: pulse k answers k mod 2.
 fn outcomes(heap: Global) -> Result<Vec<u8>, AllocError>
-    ensures { IfOk result (λ v. vec_len v ≡ 64) }
+    ensures { IfOk result (λ v. v.items ≡ alternating 64) }
 {
     let mut outcomes = Vec::new(heap);
     for k in 0..PULSES {
@@ -57,7 +59,7 @@ fn outcomes(heap: Global) -> Result<Vec<u8>, AllocError>
 
 // The entries of a journal up to the first that no pulse filled.
 fn pulses_made(heap: Global, journal: &[Entry]) -> Result<Vec<Entry>, AllocError>
-    ensures { IfOk result (λ v. vec_len v ≤ length journal.now) }
+    ensures { IfOk result (λ v. v.items ≡ before_empty journal.now) }
 {
     let mut entries = Vec::new(heap);
     for entry in journal {
@@ -69,53 +71,72 @@ fn pulses_made(heap: Global, journal: &[Entry]) -> Result<Vec<Entry>, AllocError
     Ok(entries)
 }
 
-// A value and its type.
-type Collected = (Vec<TermCell>, Vec<TypeCell>);
-
-// The value with its type, or no cells where the run stopped before one.
-fn collected<R: Register>(
-    heap: Global,
-    controller: &mut Controller<R>,
-    work: &mut [TermCell],
-) -> Result<Collected, AllocError> {
-    let mut kinds = vec![in heap; BLANK_TYPE; MOST_TYPE_CELLS]?;
-    match controller.collect(work, &mut kinds) {
-        Ok((cells, kind_cells)) => Ok((
-            work.iter().take(cells).copied().collect(heap)?,
-            kinds.iter().take(kind_cells).copied().collect(heap)?,
-        )),
-        Err(_) => Ok((Vec::new(heap), Vec::new(heap))),
-    }
-}
-
-fn refused(refusal: Refusal) -> Shot {
+fn refused(refusal: Refusal) -> Shot
+    ensures { result ≡ Shot.Refused (fault_number refusal.fault) refusal.place }
+{
     Shot::Refused {
         number: refusal.fault.number(),
         place: refusal.place,
     }
 }
 
-// Runs an accepted program on a new tape.
-fn run_accepted(heap: Global, program: &Accepted) -> Result<Shot, AllocError> {
+// The refusal that a turn of a shot came to, if it was refused.
+fn refusal(reply: Reply) -> Option<Shot> {
+    match reply {
+        Reply::NotAccepted(fault) => Some(Shot::Refused {
+            number: fault.number(),
+            place: fault.cell() as u64,
+        }),
+        Reply::Refused(refusal) => Some(refused(refusal)),
+        _ => None,
+    }
+}
+
+// The steps of a run, and why they stopped.
+fn ran(reply: Reply) -> (u64, Stop) {
+    match reply {
+        Reply::Ran(steps, stop) => (steps, stop),
+        _ => (0, Stop::Budget),
+    }
+}
+
+// The cell counts of a value and of its type, none where the run stopped before one.
+fn collected(reply: Reply) -> (usize, usize) {
+    match reply {
+        Reply::Collected(cells, kind_cells) => (cells, kind_cells),
+        _ => (0, 0),
+    }
+}
+
+// Plays a shot's row on a new tape: a load, a run and the collecting of its value.
+fn play_cells(heap: Global, types: &[TypeCell], terms: &[TermCell]) -> Result<Shot, AllocError> {
     let outcomes = outcomes(heap)?;
     let mut journal = vec![in heap; Entry::Empty; PULSES]?;
     let mut work = vec![in heap; BLANK_TERM; MOST_RUNNING_CELLS]?;
-    let mut controller = Controller::new(Tape::new(CAPACITY, &outcomes, &mut journal));
-    if let Err(refusal) = controller.load(program) {
-        return Ok(refused(refusal));
+    let mut value = vec![in heap; BLANK_TERM; MOST_RUNNING_CELLS]?;
+    let mut kinds = vec![in heap; BLANK_TYPE; MOST_TYPE_CELLS]?;
+    let row = [
+        Turn::Load(types, terms),
+        Turn::Run(BUDGET, MOST_RUNNING_CELLS),
+        Turn::Collect(MOST_RUNNING_CELLS, MOST_TYPE_CELLS),
+    ];
+    let mut replies = [Reply::Unplayed; 3];
+    let tape = Tape::new(CAPACITY, &outcomes, &mut journal);
+    let controller = play_row(tape, &row, &mut work, &mut value, &mut kinds, &mut replies);
+    if let Some(shot) = refusal(replies[0]) {
+        return Ok(shot);
     }
-    let (steps, stop) = match controller.run(BUDGET, &mut work) {
-        Ok(ran) => ran,
-        Err(refusal) => return Ok(refused(refusal)),
-    };
-    let journal = pulses_made(heap, controller.register().journal())?;
-    let (value, kinds) = collected(heap, &mut controller, &mut work)?;
+    if let Some(shot) = refusal(replies[1]) {
+        return Ok(shot);
+    }
+    let (steps, stop) = ran(replies[1]);
+    let (cells, kind_cells) = collected(replies[2]);
     Ok(Shot::Ran {
         steps,
         stop,
-        value,
-        kinds,
-        journal,
+        value: value.iter().take(cells).copied().collect(heap)?,
+        kinds: kinds.iter().take(kind_cells).copied().collect(heap)?,
+        journal: pulses_made(heap, controller.register().journal())?,
     })
 }
 
@@ -130,13 +151,5 @@ pub fn play(heap: Global, text: &[u8]) -> Result<Shot, AllocError> {
             place: fault.line as u64,
         }),
     };
-    let types = &types[0..type_count];
-    let terms = &terms[0..term_count];
-    if let Err(fault) = check(types, terms) {
-        return Ok(Shot::Refused {
-            number: fault.number(),
-            place: fault.cell() as u64,
-        });
-    }
-    run_accepted(heap, &Accepted::new(types, terms))
+    play_cells(heap, &types[0..type_count], &terms[0..term_count])
 }

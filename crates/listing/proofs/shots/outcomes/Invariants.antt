@@ -1,5 +1,6 @@
-use Rattle.std.proofs.Common.{◌≡◌, vec_len}
+use Rattle.std.proofs.Common.{◌≡◌}
+use Rattle.listing.specs.Playing.{alternating}
 use Rattle.listing.proofs.shots.outcomes.Given as goal
 
 abbrev pub invariant-loop-k : goal.invariant-loop-k
-invariant-loop-k l = vec_len l.outcomes ≡ l.k
+invariant-loop-k l = l.outcomes.items ≡ alternating l.k

@@ -1,0 +1,4 @@
+mod Counted
+mod Cutting
+mod Plain
+mod Texts

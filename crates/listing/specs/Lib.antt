@@ -1,0 +1,5 @@
+pub mod Back
+pub mod Lines
+pub mod Listing
+pub mod Playing
+pub mod Samples

@@ -1,0 +1,18 @@
+//! What holds of every listing, in the words of its format.
+
+ghost use Rattle.listing.specs.Back.{ReadBack};
+ghost use Rattle.listing.specs.Samples.{SamplesAreListed};
+
+/// Sample runs have the listings that stand beside them.
+pub fn samples_are_listed() -> u8
+    ensures { SamplesAreListed }
+{
+    0
+}
+
+/// A listing of a calculus' letters and 64-bit numbers is read back from its text, line for line and field for field.
+pub fn listings_are_read_back() -> u8
+    ensures { ReadBack }
+{
+    0
+}

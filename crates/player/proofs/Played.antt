@@ -1,0 +1,169 @@
+-- A row that is played so far, and one turn more.
+use Rattle.std.specs.Prelude.{◌≡◌, ◌↔◌, ℕ, suc, ◌+◌, ◌-◌, min, ◌<◌, ◌≤◌, true, List, [], ◌∷◌, ◌++◌, length, take, drop, None, Bool, false, cond, Some, Ok, Option}
+use Rattle.std.proofs.Common.{ap, ◌∙◌, sym, refl, subst, inl, inr, get_or, set, arith}
+use Rattle.std.proofs.lemmas.List.{length-take-le, take_more}
+use Rattle.calculus.specs.declared.cells.TermCell.{TermCell}
+use Rattle.calculus.specs.declared.gates.Gate.{Gate}
+use Rattle.controller.specs.declared.faults.ControllerFault.TheVariants.{AlreadyLoaded}
+use Rattle.controller.specs.Faults.{refused}
+use Rattle.controller.specs.Loading.{count_or_unmade, first_unmade, load_answer}
+use Rattle.calculus.specs.declared.cells.TypeCell.{TypeCell}
+use Rattle.registers.specs.Meaning.{Meaning, Changes, after_clear}
+use Rattle.rows.specs.Members.{Member}
+use Rattle.rows.specs.Places.{Place, New}
+use Rattle.rows.specs.Refusing.{Refused}
+use Rattle.rows.specs.Doing.{Does}
+use Rattle.rows.specs.Rows.{Row, row_end, row_next, Reached, at_start, then_does}
+use Rattle.rows.proofs.Sound.{every_place_is_sound}
+use Rattle.controller.specs.declared.shot.Shot.{Shot}
+use Rattle.controller.specs.Shots.{Held, held, nothing_held, is_loaded}
+use Rattle.controller.specs.Keeping.{Kept, place_of, LoadKeptBy}
+use Rattle.player.specs.declared.turns.Turn.{Turn}
+use Rattle.player.specs.declared.turns.Reply.{Reply}
+use Rattle.player.specs.Turns.{Rooms, rooms, IsMember, IsReply, LoadReply, NotPlayed, is_refused, LoadPlayed, TurnPlayed}
+use Rattle.player.specs.Playing.{Played, none_played, not_accepted, one_played, first_place, RowPlayed}
+
+module _ {C : Type 0} {changes : Changes C} {r : Rooms} where
+  then_not_accepted : {p q : Place C} (t : Turn) {ts : List Turn} (y : Reply) {ys : List Reply} {xs : List Member} {ps : List (Place C)}
+      → Played changes r p ts ys xs ps q → NotPlayed t y → Played changes r p (ts ++ t ∷ []) (ys ++ y ∷ []) xs ps q
+  then_not_accepted t y none_played n = not_accepted n none_played
+  then_not_accepted t y (not_accepted m k) n = not_accepted m (then_not_accepted t y k n)
+  then_not_accepted t y (one_played i a d f k) n = one_played i a d f (then_not_accepted t y k n)
+
+  then_one : {p q s : Place C} (t : Turn) {ts : List Turn} (y : Reply) {ys : List Reply} {x : Member} {xs : List Member} {ps : List (Place C)}
+      → Played changes r p ts ys xs ps q → IsMember r t x → IsReply t y → Does changes q x s → (is_refused y ≡ true) ↔ Refused q x
+      → Played changes r p (ts ++ t ∷ []) (ys ++ y ∷ []) (xs ++ x ∷ []) (ps ++ s ∷ []) s
+  then_one t y none_played i a d f = one_played i a d f none_played
+  then_one t y (not_accepted m k) i a d f = not_accepted m (then_one t y k i a d f)
+  then_one t y (one_played j b e g k) i a d f = one_played j b e g (then_one t y k i a d f)
+
+  row_of : {p q : Place C} {ts : List Turn} {ys : List Reply} {xs : List Member} {ps : List (Place C)} → Played changes r p ts ys xs ps q → Row changes p xs ps
+  row_of none_played = row_end
+  row_of (not_accepted m k) = row_of k
+  row_of (one_played i a d f k) = row_next d (row_of k)
+
+  reached_of : {o p q : Place C} {ts : List Turn} {ys : List Reply} {xs : List Member} {ps : List (Place C)}
+      → Reached changes o p → Played changes r p ts ys xs ps q → Reached changes o q
+  reached_of c none_played = c
+  reached_of c (not_accepted m k) = reached_of c k
+  reached_of c (one_played i a d f k) = reached_of (then_does c d) k
+
+  as_many : {p q : Place C} {ts : List Turn} {ys : List Reply} {xs : List Member} {ps : List (Place C)} → Played changes r p ts ys xs ps q → length ys ≡ length ts
+  as_many none_played = refl
+  as_many (not_accepted m k) = ap suc (as_many k)
+  as_many (one_played i a d f k) = ap suc (as_many k)
+
+-- the next place of a table is written
+written : {A : Type 0} (told old : List A) (y : A) → length told < length old
+    → set (told ++ drop (length told) old) (length told) y ≡ (told ++ y ∷ []) ++ drop (length (told ++ y ∷ [])) old
+written [] [] y l = absurd (omega arith)
+written [] (o ∷ os) y l = refl
+written (x ∷ xs) [] y l = absurd (omega arith)
+written (x ∷ xs) (o ∷ os) y l = let s : length xs < length os = omega arith in ap (λ zs. x ∷ zs) (written xs os y s)
+
+told_more : (n : ℕ) (old new told : List Reply) (y : Reply) → length told ≡ n → n < length old → new ≡ told ++ drop (length told) old
+    → set new n y ≡ (told ++ y ∷ []) ++ drop (length (told ++ y ∷ [])) old
+told_more n old new told y s l e =
+    let t : length told < length old = omega arith in
+    ap (λ z. set z n y) e ∙ ap (λ k. set (told ++ drop (length told) old) k y) (sym s) ∙ written told old y t
+
+pub same_rooms : (a b c a' b' c' : ℕ) → a ≡ a' → b ≡ b' → c ≡ c' → rooms a b c ≡ rooms a' b' c'
+same_rooms a b c a' b' c' e f g = cc
+
+-- what a load answers that is not refused
+by_unmade : (o : Option ℕ) (n m : ℕ) → Ok n ≡ count_or_unmade o m → n ≡ m
+by_unmade None n m e = cc
+by_unmade (Some cell) n m e = absurd (grind arith)
+
+by_loaded : (b : Bool) (o : Option ℕ) (n m place : ℕ) → Ok n ≡ cond b (refused AlreadyLoaded place) (count_or_unmade o m) → n ≡ m
+by_loaded true o n m place e = absurd (grind arith)
+by_loaded false o n m place e = by_unmade o n m e
+
+pub loaded_count : (makes : Gate → Bool) (h : Held) (terms : List TermCell) (n : ℕ) → Ok n ≡ load_answer makes h terms → n ≡ length terms
+loaded_count makes h terms n e = by_loaded (is_loaded h) (first_unmade makes terms) n (length terms) h.steps e
+
+-- the length of the front of a table
+pub cut : {A : Type 0} (n room : ℕ) (xs : List A) → n ≡ min room (length xs) → length (take (n - 0) xs) ≡ min room (length xs)
+cut n room xs e = let z : n - 0 ≡ n = omega arith in let l : n ≤ length xs = grind arith in ap (λ k. length (take k xs)) z ∙ length-take-le n xs l ∙ e
+
+module _ {R C : Type 0} (changes : Changes C) (meaning : R → Meaning C) (given : Meaning C) (r : Rooms) where
+  abbrev kept_so_far : {row : List Turn} {old new : List Reply} {h : Held} {m : Meaning C} → RowPlayed changes given r row old new h m → Kept changes h m
+  kept_so_far k = record { loaded = k.loaded; stands = k.stands; start = first_place changes given; is_new = k.is_new; reached = reached_of at_start k.played }
+
+  -- a new controller has played nothing
+  pub none_yet : (old : List Reply) (h : Held) (m : Meaning C) → h ≡ nothing_held → given.capacity ≤ 32 → m ≡ after_clear changes given → RowPlayed changes given r [] old old h m
+  none_yet old h m s small cleared =
+      let is_new : New changes (first_place changes given) = record { nothing = refl; given = given; small = small; cleared = refl } in
+      subst (λ z. RowPlayed changes given r [] old old h z) (sym cleared) (record {
+        replies = [];
+        members = [];
+        places = first_place changes given ∷ [];
+        loaded = None;
+        stands = s;
+        played = none_played;
+        is_new = is_new;
+        is_row = row_end;
+        sound = every_place_is_sound C changes (first_place changes given) [] (first_place changes given ∷ []) is_new row_end;
+        told = refl;
+      })
+
+  -- one turn more
+  one_more : (n : ℕ) (row : List Turn) (old new : List Reply) (shot shot' : Shot) (register register' : R) (t : Turn) (y : Reply)
+      → RowPlayed changes given r row old new (held shot) (meaning register) → TurnPlayed changes meaning r t shot register shot' register' y
+      → length row ≡ n → n < length old → RowPlayed changes given r (row ++ t ∷ []) old (set new n y) (held shot') (meaning register')
+  one_more n row old new shot shot' register register' t y k (inl (x, i, a, keeps)) s l =
+      let after = keeps (kept_so_far k) in
+      let played = then_one t y k.played i a after.does after.refusal in
+      record {
+        replies = k.replies ++ y ∷ [];
+        members = k.members ++ x ∷ [];
+        places = k.places ++ place_of after.after ∷ [];
+        loaded = after.after.loaded;
+        stands = after.after.stands;
+        played = played;
+        is_new = k.is_new;
+        is_row = row_of played;
+        sound = every_place_is_sound C changes (first_place changes given) _ _ k.is_new (row_of played);
+        told = told_more n old new k.replies y (as_many k.played ∙ s) l k.told;
+      }
+  one_more n row old new shot shot' register register' t y k (inr (not, e, f)) s l =
+      subst (λ h. RowPlayed changes given r (row ++ t ∷ []) old (set new n y) h (meaning register')) (sym (ap held e))
+      (subst (λ m. RowPlayed changes given r (row ++ t ∷ []) old (set new n y) (held shot) m) (sym (ap meaning f))
+      (record {
+        replies = k.replies ++ y ∷ [];
+        members = k.members;
+        places = k.places;
+        loaded = k.loaded;
+        stands = k.stands;
+        played = then_not_accepted t y k.played not;
+        is_new = k.is_new;
+        is_row = k.is_row;
+        sound = k.sound;
+        told = told_more n old new k.replies y (as_many k.played ∙ s) l k.told;
+      }))
+
+  -- the next turn of a row
+  pub next_turn : (i : ℕ) (row : List Turn) (d : Turn) (old new : List Reply) (shot shot' : Shot) (register register' : R) (y : Reply) (q : Rooms) → q ≡ r
+      → RowPlayed changes given r (take i row) old new (held shot) (meaning register) → TurnPlayed changes meaning q (get_or row i d) shot register shot' register' y
+      → i < length row → i < length old → RowPlayed changes given r (take (i + 1) row) old (set new i y) (held shot') (meaning register')
+  next_turn i row d old new shot shot' register register' y q e k t l m =
+      let le : i ≤ length row = omega arith in
+      let turn = subst (λ z. TurnPlayed changes meaning z (get_or row i d) shot register shot' register' y) e t in
+      subst (λ ts. RowPlayed changes given r ts old (set new i y) (held shot') (meaning register')) (sym (take_more row i d l))
+      (one_more i (take i row) old new shot shot' register register' (get_or row i d) y k turn (length-take-le i row le) m)
+
+module _ {R C : Type 0} (changes : Changes C) (meaning : R → Meaning C) where
+  -- A load by tables that are those of the turn.
+  pub loaded_by : (types types' : List TypeCell) (terms terms' : List TermCell) (shot shot' : Shot) (register register' : R) (y : Reply) → types' ≡ types → terms' ≡ terms
+      → LoadReply terms y → LoadKeptBy changes meaning types' terms' shot register shot' register' (is_refused y) → LoadPlayed changes meaning types terms shot register shot' register' y
+  loaded_by types types' terms terms' shot shot' register register' y e f a k =
+      inl (
+        subst (λ z. LoadKeptBy changes meaning z terms shot register shot' register' (is_refused y)) e
+            (subst (λ z. LoadKeptBy changes meaning types' z shot register shot' register' (is_refused y)) f k),
+        a,
+      )
+
+  -- The same turn, as it is matched.
+  pub turn_is : (r : Rooms) (t u : Turn) (shot shot' : Shot) (register register' : R) (y : Reply) → t ≡ u
+      → TurnPlayed changes meaning r u shot register shot' register' y → TurnPlayed changes meaning r t shot register shot' register' y
+  turn_is r t u shot shot' register register' y e p = subst (λ z. TurnPlayed changes meaning r z shot register shot' register' y) (sym e) p

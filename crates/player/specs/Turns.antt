@@ -1,0 +1,94 @@
+-- What a turn is: a member of a row, or a program that is not accepted.
+use Rattle.std.specs.Prelude.{◌≡◌, ℕ, ◌≤◌, ◌⊎◌, Bool, true, false, List, length, min, Err}
+use Rattle.calculus.specs.declared.cells.TermCell.{TermCell}
+use Rattle.calculus.specs.declared.cells.TypeCell.{TypeCell}
+use Rattle.verdict.specs.declared.faults.CheckFault.{CheckFault}
+use Rattle.checker.specs.Accepting.{program_verdict}
+use Rattle.checker.specs.Meaning.{meaning}
+use Rattle.registers.specs.Meaning.{Meaning, Changes}
+use Rattle.rows.specs.Members.{Program, Member, load, step, run, collect, abandon}
+use Rattle.controller.specs.declared.faults.Refusal.{Refusal}
+use Rattle.controller.specs.declared.faults.Stop.{Stop}
+use Rattle.controller.specs.declared.shot.Shot.{Shot}
+use Rattle.controller.specs.Keeping.{KeptBy, LoadKeptBy}
+use Rattle.player.specs.declared.turns.Turn.{Turn}
+use Rattle.player.specs.declared.turns.Turn.TheVariants.{Load, Step, Run, Collect, Abandon}
+use Rattle.player.specs.declared.turns.Reply.{Reply}
+use Rattle.player.specs.declared.turns.Reply.TheVariants.{Unplayed, NotAccepted, Refused, Loaded, Stepped, Ran, Collected, Abandoned}
+
+-- The lengths of the tables that the turns take their cells from.
+pub record Rooms : Type 0 where
+  pub work : ℕ
+  pub value : ℕ
+  pub kinds : ℕ
+
+abbrev pub rooms : ℕ → ℕ → ℕ → Rooms
+rooms work value kinds = record { work = work; value = value; kinds = kinds }
+
+-- The turn is this member of a row: a load is of the program that its tables store, and no table is longer than its room.
+abbrev pub IsMember : Rooms → Turn → Member → Type 0
+IsMember r (Load types terms) x = (p : Program) × (p.term ≡ meaning types.now terms.now 0) × (x ≡ load p)
+IsMember r (Step room) x = x ≡ step (min room r.work)
+IsMember r (Run budget room) x = x ≡ run budget (min room r.work)
+IsMember r (Collect room kind_room) x = x ≡ collect (min room r.value) (min kind_room r.kinds)
+IsMember r Abandon x = x ≡ abandon
+
+-- The program is not accepted, and the reply is the checker's fault.
+abbrev pub Unaccepted : List TypeCell → List TermCell → Reply → Type 0
+Unaccepted types terms y = (f : CheckFault) × (program_verdict types terms ≡ Err f) × (y ≡ NotAccepted f)
+
+-- The turn is no member: it loads a program that is not accepted.
+abbrev pub NotPlayed : Turn → Reply → Type 0
+NotPlayed (Load types terms) y = Unaccepted types.now terms.now y
+NotPlayed (Step room) y = ⊥
+NotPlayed (Run budget room) y = ⊥
+NotPlayed (Collect room kind_room) y = ⊥
+NotPlayed Abandon y = ⊥
+
+-- the reply is that the call was refused
+abbrev pub is_refused : Reply → Bool
+is_refused (Refused f) = true
+is_refused Unplayed = false
+is_refused (NotAccepted f) = false
+is_refused (Loaded n) = false
+is_refused (Stepped n) = false
+is_refused (Ran n why) = false
+is_refused (Collected n k) = false
+is_refused Abandoned = false
+
+-- The reply to each call is its answer, or that it was refused. A load answers its term's count of cells, a run no more steps than its budget.
+abbrev pub Refuses : Reply → Type 0
+Refuses y = (f : Refusal) × (y ≡ Refused f)
+
+abbrev pub LoadReply : List TermCell → Reply → Type 0
+LoadReply terms y = (y ≡ Loaded (length terms)) ⊎ Refuses y
+
+abbrev pub StepReply : Reply → Type 0
+StepReply y = ((n : ℕ) × (y ≡ Stepped n)) ⊎ Refuses y
+
+abbrev pub RunReply : ℕ → Reply → Type 0
+RunReply budget y = ((n : ℕ) × (why : Stop) × (n ≤ budget) × (y ≡ Ran n why)) ⊎ Refuses y
+
+abbrev pub CollectReply : Reply → Type 0
+CollectReply y = ((n : ℕ) × (k : ℕ) × (y ≡ Collected n k)) ⊎ Refuses y
+
+abbrev pub AbandonReply : Reply → Type 0
+AbandonReply y = (y ≡ Abandoned) ⊎ Refuses y
+
+abbrev pub IsReply : Turn → Reply → Type 0
+IsReply (Load types terms) = LoadReply terms.now
+IsReply (Step room) = StepReply
+IsReply (Run budget room) = RunReply budget
+IsReply (Collect room kind_room) = CollectReply
+IsReply Abandon = AbandonReply
+
+-- A load by its tables is played: as a member of a row, or nothing is called.
+abbrev pub LoadPlayed : {R C : Type 0} → Changes C → (R → Meaning C) → List TypeCell → List TermCell → Shot → R → Shot → R → Reply → Type 0
+LoadPlayed changes meaning types terms shot register shot' register' y =
+    (LoadKeptBy changes meaning types terms shot register shot' register' (is_refused y) × LoadReply terms y) ⊎ (Unaccepted types terms y × (shot' ≡ shot) × (register' ≡ register))
+
+-- A turn is played: as the member that it is, or nothing is called.
+abbrev pub TurnPlayed : {R C : Type 0} → Changes C → (R → Meaning C) → Rooms → Turn → Shot → R → Shot → R → Reply → Type 0
+TurnPlayed changes meaning r turn shot register shot' register' y =
+    ((x : Member) × IsMember r turn x × IsReply turn y × KeptBy changes meaning x shot register shot' register' (is_refused y))
+    ⊎ (NotPlayed turn y × (shot' ≡ shot) × (register' ≡ register))

@@ -1,0 +1,39 @@
+//! The turns of a row, and what is replied to each.
+
+use calculus::{TermCell, TypeCell};
+use controller::{Refusal, Stop};
+use verdict::CheckFault;
+
+/// A call of the controller as data. The call has the first cells of a table, as many as its turn gives it.
+#[derive(Clone, Copy, Drop)]
+pub enum Turn<'a> {
+    /// Checks a program, and loads it if it is accepted.
+    Load(&'a [TypeCell], &'a [TermCell]),
+    /// One step, with so many cells of the work table.
+    Step(usize),
+    /// A run with this budget, with so many cells of the work table.
+    Run(u64, usize),
+    /// Collects into so many cells of the table for values, and so many of the table for their types.
+    Collect(usize, usize),
+    Abandon,
+}
+
+/// The reply to a turn.
+#[derive(Clone, Copy, PartialEq, Eq, Debug, Drop)]
+pub enum Reply {
+    /// The turn was not played.
+    Unplayed,
+    /// The program is not accepted, and nothing was called.
+    NotAccepted(CheckFault),
+    /// The call was refused.
+    Refused(Refusal),
+    /// Loaded: the cell count of the term.
+    Loaded(usize),
+    /// One step: the cell count of the next term.
+    Stepped(usize),
+    /// A run: the steps made, and why they stopped.
+    Ran(u64, Stop),
+    /// Collected: the cell counts of the value and of its type.
+    Collected(usize, usize),
+    Abandoned,
+}
