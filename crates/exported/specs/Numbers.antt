@@ -1,0 +1,50 @@
+-- Cells as a caller knows them that has numbers only.
+use Rattle.std.specs.Prelude.{ℕ, Bool, cond, min, List, [], ◌∷◌, ◌++◌, map, length, take, drop, nat_lt}
+use Rattle.calculus.specs.declared.cells.TermCell.{TermCell}
+use Rattle.calculus.specs.declared.cells.TypeCell.{TypeCell}
+use Rattle.calculus.specs.Gates.{number_of}
+use Rattle.registers.specs.declared.journal.Entry.{Entry}
+use Rattle.registers.specs.declared.journal.Entry.TheVariants.{Empty, Prepare, Gate as Gated, Read}
+use Rattle.exported.specs.declared.tables.Node.{Node}
+use Rattle.exported.specs.declared.tables.Pulse.{Pulse}
+
+-- a letter by its number; a number from 256 on is no letter
+abbrev pub letter_of : ℕ → ℕ
+letter_of n = cond (nat_lt n 256) n 0
+
+abbrev pub kind_of : ℕ → TypeCell
+kind_of n = record { kind = letter_of n }
+
+abbrev pub cell_of : Node → TermCell
+cell_of n = record { op = letter_of n.letter; argument = n.argument; claim = n.claim }
+
+abbrev pub number_of_kind : TypeCell → ℕ
+number_of_kind c = c.kind
+
+abbrev pub node_of : TermCell → Node
+node_of c = record { letter = c.op; argument = c.argument; claim = c.claim }
+
+abbrev pub bit_of : Bool → ℕ
+bit_of b = cond b 1 0
+
+-- what a pulse did, in five numbers
+abbrev pub pulse_of : Entry → Pulse
+pulse_of Empty = record { kind = 0; what = 0; on = 0 ∷ 0 ∷ 0 ∷ [] }
+pulse_of (Prepare h b) = record { kind = 1; what = bit_of b; on = h ∷ 0 ∷ 0 ∷ [] }
+pulse_of (Gated g on) = record { kind = 2; what = number_of g; on = on }
+pulse_of (Read h b) = record { kind = 3; what = bit_of b; on = h ∷ 0 ∷ 0 ∷ [] }
+
+-- a table whose front is made of other cells one by one, so many of them; the rest stays
+abbrev pub fronted_by : {X Y : Type 0} → ℕ → (X → Y) → List X → List Y → List Y
+fronted_by n f xs ys = map f (take n xs) ++ drop n ys
+
+-- the same, as far as both reach
+abbrev pub handed : {X Y : Type 0} → (X → Y) → List X → List Y → List Y
+handed f xs ys = fronted_by (min (length ys) (length xs)) f xs ys
+
+-- what a call looks at of a program's tables: no more than one cell past each limit
+abbrev pub kinds_seen : List ℕ → List TypeCell
+kinds_seen letters = map kind_of (take 257 letters)
+
+abbrev pub cells_seen : List Node → List TermCell
+cells_seen nodes = map cell_of (take 513 nodes)

@@ -1,0 +1,44 @@
+//! Reading a stored program.
+
+ghost use Rattle.std.specs.Prelude.{◌≡◌, ◌≤◌};
+ghost use Rattle.exported.specs.Numbers.{number_of_kind, node_of, handed};
+ghost use Rattle.exported.specs.Verdicts.{fresh_reading, verdict_of};
+
+use crate::answers::{Verdict, accepted, refused};
+use crate::tables::{BLANK_TERM, BLANK_TYPE, Node, give_terms, give_types};
+use calculus::{MOST_TERM_CELLS, MOST_TYPE_CELLS};
+use reader::read;
+
+/// Reads a stored program to new tables, which are handed back as far as there is room; answers both counts, or the fault and its line.
+#[unsafe(no_mangle)]
+pub extern "C" fn ql_read(text: &[u8], letters: &mut [u32], nodes: &mut [Node]) -> Verdict
+    ensures answer { result ≡ verdict_of (fresh_reading text.now).answer }
+    ensures types { letters.new ≡ handed number_of_kind (fresh_reading text.now).types letters.old }
+    ensures terms { nodes.new ≡ handed node_of (fresh_reading text.now).terms nodes.old }
+{
+    let mut types = [BLANK_TYPE; MOST_TYPE_CELLS];
+    let mut terms = [BLANK_TERM; MOST_TERM_CELLS];
+    let answer = read(text, &mut types, &mut terms);
+    give_types(&types, letters);
+    give_terms(&terms, nodes);
+    match answer {
+        Ok((kinds, ops)) => accepted(kinds as u64, ops as u64),
+        Err(fault) => refused(fault.number(), fault.line as u64),
+    }
+}
+
+/// Reads a stored program so many times, and answers how often it was accepted.
+#[unsafe(no_mangle)]
+pub extern "C" fn ql_read_often(text: &[u8], times: u64) -> u64
+    ensures { result ≤ times }
+{
+    let mut types = [BLANK_TYPE; MOST_TYPE_CELLS];
+    let mut terms = [BLANK_TERM; MOST_TERM_CELLS];
+    let mut passed = 0;
+    for _ in 0..times {
+        if read(text, &mut types, &mut terms).is_ok() {
+            passed += 1;
+        }
+    }
+    passed
+}
