@@ -6,12 +6,12 @@ ghost use Rattle.agreement.specs.Rules.{renamed_rule};
 use crate::tally::{GOES_ON, Subject, Tally, VALUE};
 use calculus::TermCell;
 use checker::check;
+use finder::{Rule, find};
 use listing::{listing, play};
 use samples::Draft;
 use second::{Place, SecondRule, second_check, second_find, second_shot};
 use std::alloc::{AllocError, Global};
 use std::io;
-use stepper::{Rule, find};
 
 /// How many bytes of a program are read.
 const MOST_BYTES: usize = 16_384;

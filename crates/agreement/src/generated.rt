@@ -25,17 +25,48 @@ pub fn compare_drawn(rt: &HostRuntime, tally: &mut Tally, random: &mut Random) -
     Ok(())
 }
 
+// Compares a program with changed cells, or with a changed text.
+fn compare_one_damaged(
+    rt: &HostRuntime,
+    tally: &mut Tally,
+    random: &mut Random,
+    in_cells: bool,
+) -> io::Result<()> {
+    let mut draft = any_program(tally.heap(), random, false)?;
+    if in_cells {
+        damage_cells(random, &mut draft)?;
+        return compare_draft(rt, tally, &draft);
+    }
+    let text = draft.text()?;
+    let text = damage_text(tally.heap(), random, text.as_bytes())?;
+    compare_shots(rt, tally, &text)?;
+    Ok(())
+}
+
 /// Compares programs with changed cells, and with changed texts.
 pub fn compare_damaged(rt: &HostRuntime, tally: &mut Tally, random: &mut Random) -> io::Result<()> {
     for i in 0..1600 {
-        let mut draft = any_program(tally.heap(), random, false)?;
-        if i % 2 == 0 {
-            damage_cells(random, &mut draft)?;
-            compare_draft(rt, tally, &draft)?;
-        } else {
-            let text = draft.text()?;
-            let text = damage_text(tally.heap(), random, text.as_bytes())?;
-            compare_shots(rt, tally, &text)?;
+        compare_one_damaged(rt, tally, random, i % 2 == 0)?;
+    }
+    Ok(())
+}
+
+/// Compares so many programs: of ten, six follow the typing rules, one of them perhaps but for how often it uses a variable;
+/// two have changed cells, and two a changed text.
+pub fn compare_many(
+    rt: &HostRuntime,
+    tally: &mut Tally,
+    random: &mut Random,
+    count: usize,
+) -> io::Result<()> {
+    for i in 0..count {
+        match i % 10 {
+            6 | 7 => compare_one_damaged(rt, tally, random, true)?,
+            8 | 9 => compare_one_damaged(rt, tally, random, false)?,
+            place => {
+                let draft = any_program(tally.heap(), random, place == 0)?;
+                compare_draft(rt, tally, &draft)?;
+            }
         }
     }
     Ok(())
