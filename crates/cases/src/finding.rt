@@ -1,9 +1,9 @@
 //! Running terms: the rule that applies and its cell, a value, or the number and the cell of a refusal.
 
 use crate::making::terms;
+use finder::{Rule, find};
 use std::alloc::{AllocError, Global};
 use std::test::Fail;
-use stepper::{Rule, find};
 
 #[derive(Clone, Copy, PartialEq, Eq, Debug, Drop)]
 enum Found {

@@ -5,9 +5,10 @@
 use anyhow::anyhow;
 use calculus::{TermCell, TypeCell};
 use checker::check;
+use finder::find;
 use std::alloc::{AllocError, Global};
 use std::time::Instant;
-use stepper::{Answer, find, next};
+use stepper::{Answer, next};
 
 /// How often each call is timed; the shortest time counts.
 const REPEATS: u32 = 400;
