@@ -1,5 +1,5 @@
 -- The qubits that a running term names, and the ways through its branches.
-use Rattle.std.specs.Prelude.{◌≡◌, ℕ, ◌⊎◌, List, [], ◌∷◌, ◌++◌, Some, None}
+use Rattle.std.specs.Prelude.{◌≡◌, ℕ, ◌<◌, ◌⊎◌, List, [], ◌∷◌, ◌++◌, Some, None}
 use Rattle.calculus.specs.Types.{Ty, qbit}
 use Rattle.calculus.specs.Terms.{bound, held, Const, var, const, star, lam, app, pair, if_then_else, let_pair, Running, Free}
 use Rattle.calculus.specs.Contexts.{Context}
@@ -39,3 +39,8 @@ In h (k ∷ ks) = (h ≡ k) ⊎ In h ks
 abbrev pub Distinct : List ℕ → Type 0
 Distinct [] = Unit {0}
 Distinct (k ∷ ks) = (In k ks → ⊥) × Distinct ks
+
+-- each number is below those after it
+abbrev pub Rising : List ℕ → Type 0
+Rising [] = Unit {0}
+Rising (k ∷ ks) = ((h : ℕ) → In h ks → k < h) × Rising ks

@@ -9,7 +9,7 @@ mod ops;
 mod safety;
 
 pub use cells::{TermCell, TypeCell};
-pub use gates::Gate;
+pub use gates::{Gate, UnknownGate};
 pub use limits::{HANDLES, MOST_BINDERS, MOST_RUNNING_CELLS, MOST_TERM_CELLS, MOST_TYPE_CELLS};
 pub use meaning::{cells_are_read, same_is_exact, subtype_is_exact};
 pub use ops::{OpShape, is_allowed, kind_parts, op_shape};

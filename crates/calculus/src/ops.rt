@@ -51,20 +51,14 @@ pub fn kind_parts(kind: char) -> Option<usize>
 pub fn is_allowed(cell: TermCell) -> bool
     ensures { result ≡ allowed cell }
 {
-    match op_shape(cell.op) {
-        Some(shape) => (cell.argument as usize) < shape.arguments,
-        None => false,
-    }
+    op_shape(cell.op).is_some_and(|shape| (cell.argument as usize) < shape.arguments)
 }
 
 impl Cell for TermCell {
     ghost arity = { arity };
 
     fn parts(&self) -> usize {
-        match op_shape(self.op) {
-            Some(shape) => shape.parts,
-            None => 0,
-        }
+        op_shape(self.op).map_or(0, |shape| shape.parts)
     }
 }
 
@@ -72,9 +66,6 @@ impl Cell for TypeCell {
     ghost arity = { kind_arity };
 
     fn parts(&self) -> usize {
-        match kind_parts(self.kind) {
-            Some(parts) => parts,
-            None => 0,
-        }
+        kind_parts(self.kind).unwrap_or(0)
     }
 }

@@ -20,15 +20,14 @@ pub fn reach<T: Cell>(cells: &[T], at: usize) -> Option<usize>
     ensures { result ≡ ends T.arity 1 (drop at cells.now) at }
 {
     let mut due: usize = 1;
-    let mut end = at;
-    while due > 0 {
-        if end >= cells.len() {
-            return None;
+    let rest = cells.get(at..)?;
+    for (i, cell) in rest.iter().enumerate() {
+        due = (due - 1).checked_add(cell.parts())?;
+        if due == 0 {
+            return Some(at + i + 1);
         }
-        due = (due - 1).checked_add(cells[end].parts())?;
-        end += 1;
     }
-    Some(end)
+    None
 }
 
 /// Copies the tree at `at` to the front of a table, whose rest stays, and answers its number of cells;
@@ -59,8 +58,8 @@ pub fn count<T: Cell>(cells: &[T]) -> Option<usize>
     ensures { result ≡ counted T.arity cells.now }
 {
     let mut trees: usize = 0;
-    for i in (0..cells.len()).rev() {
-        let parts = cells[i].parts();
+    for cell in cells.iter().rev() {
+        let parts = cell.parts();
         if parts > trees {
             return None;
         }
@@ -69,25 +68,12 @@ pub fn count<T: Cell>(cells: &[T]) -> Option<usize>
     Some(trees)
 }
 
-/// A test of a cell.
-pub trait Test<T> {
-    // Whether a cell passes.
-    ghost holds: { Self → T → Bool };
-
-    fn passes(&self, cell: T) -> bool
-        ensures { result ≡ holds self.now cell };
-}
-
 /// The place of the first cell that fails a test.
-pub fn first_failing<T: Copy, F: Test<T>>(test: &F, cells: &[T]) -> Option<usize>
-    ensures { result ≡ first_failing (F.holds test.now) cells.now 0 }
+pub fn first_failing<T: Copy, F: Fn(T) -> bool>(cells: &[T], passes: F) -> Option<usize>
+    requires { F.IsAlwaysCallable passes }
+    ensures { (holds : T → Bool) → ((x : T) (r : Bool) → F.post passes x r → r ≡ holds x) → result ≡ first_failing holds cells.now 0 }
 {
-    for i in 0..cells.len() {
-        if !test.passes(cells[i]) {
-            return Some(i);
-        }
-    }
-    None
+    cells.iter().position(|cell| !passes(*cell))
 }
 
 /// How far trees reach follows the same laws for cells of every kind.
