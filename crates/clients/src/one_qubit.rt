@@ -56,7 +56,7 @@ impl Register for OneQubit {
     }
 
     fn live_count(&self) -> usize {
-        if self.live { 1 } else { 0 }
+        usize::from(self.live)
     }
 
     fn pulses(&self) -> u64 {
@@ -64,12 +64,8 @@ impl Register for OneQubit {
     }
 
     fn prepare(&mut self, bit: bool) -> Result<u8, RegisterFault> {
-        if self.pulses == 0 {
-            return Err(RegisterFault::new(RegisterReason::NoPulses));
-        }
-        if self.live {
-            return Err(RegisterFault::new(RegisterReason::Full));
-        }
+        RegisterReason::NoPulses.refuse_if(self.pulses == 0)?;
+        RegisterReason::Full.refuse_if(self.live)?;
         self.live = true;
         self.bit = bit;
         self.pulses -= 1;
@@ -77,38 +73,24 @@ impl Register for OneQubit {
     }
 
     fn gate(&mut self, gate: Gate, on: &[u8]) -> Result<(), RegisterFault> {
-        if self.pulses == 0 {
-            return Err(RegisterFault::new(RegisterReason::NoPulses));
-        }
-        if !self.makes(gate) {
-            return Err(RegisterFault::new(RegisterReason::GateNotMade));
-        }
-        if on.len() != 1 {
-            return Err(RegisterFault::new(RegisterReason::WrongCount));
-        }
-        if !self.is_live(on[0]) {
-            return Err(RegisterFault::new(RegisterReason::NotLive));
-        }
+        RegisterReason::NoPulses.refuse_if(self.pulses == 0)?;
+        RegisterReason::GateNotMade.refuse_if(!self.makes(gate))?;
+        RegisterReason::WrongCount.refuse_if(on.len() != 1)?;
+        RegisterReason::NotLive.refuse_if(!self.is_live(on[0]))?;
         self.bit = !self.bit;
         self.pulses -= 1;
         Ok(())
     }
 
     fn read(&mut self, handle: u8) -> Result<bool, RegisterFault> {
-        if self.pulses == 0 {
-            return Err(RegisterFault::new(RegisterReason::NoPulses));
-        }
-        if !self.is_live(handle) {
-            return Err(RegisterFault::new(RegisterReason::NotLive));
-        }
+        RegisterReason::NoPulses.refuse_if(self.pulses == 0)?;
+        RegisterReason::NotLive.refuse_if(!self.is_live(handle))?;
         self.pulses -= 1;
         Ok(self.bit)
     }
 
     fn let_go(&mut self, handle: u8) -> Result<(), RegisterFault> {
-        if !self.is_live(handle) {
-            return Err(RegisterFault::new(RegisterReason::NotLive));
-        }
+        RegisterReason::NotLive.refuse_if(!self.is_live(handle))?;
         self.live = false;
         Ok(())
     }

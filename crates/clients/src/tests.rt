@@ -6,10 +6,7 @@ use registers::{Cap, Entry, Level, Register, Tape};
 
 // What is answered, as the bit or the number of the refusal and its depth.
 fn shown<R: Register>(register: &mut R, bit: bool) -> Result<bool, (u16, u16)> {
-    match prepare_and_read(register, bit) {
-        Ok(outcome) => Ok(outcome),
-        Err(fault) => Err((fault.number(), fault.depth)),
-    }
+    prepare_and_read(register, bit).map_err(|fault| (fault.number(), fault.depth))
 }
 
 #[test]

@@ -1,16 +1,14 @@
 -- Every place before the first free one is true.
-use Rattle.std.proofs.Common.{◌≡◌, ℕ, zero, suc, ◌+◌, ◌-◌, ◌<◌, ◌≤◌, Bool, true, false, ltb, List, [], ◌∷◌, length, get_or, take, drop, sym, refl, ap, ◌∙◌, ⊎_elim, arith}
+use Rattle.std.proofs.Common.{◌≡◌, ℕ, ◌+◌, ◌-◌, ◌<◌, ◌≤◌, Bool, true, false, not, ltb, List, length, get_or, take, drop, sym, ap, ◌∙◌, ⊎_elim, arith}
 use Rattle.std.proofs.lemmas.List.{get_or-drop, get_or-take}
-use Rattle.std.proofs.lemmas.Bool.{cond_both, ltb-false}
+use Rattle.std.proofs.lemmas.List.Sums.{fails_before_first}
+use Rattle.std.proofs.lemmas.Bool.{cond_both, ltb-false, not-false}
 use Rattle.registers.specs.Handles.{first_free, free_from, next_free, places, room}
 use Rattle.registers.specs.Free.{places_wide, below_long, handle_below, handle_not_live}
 use Rattle.registers.specs.Next.{Passed, NextIsFound}
 
 before_free : (l : List Bool) (k : ℕ) → k < first_free l → get_or l k false ≡ true
-before_free [] k h = absurd (omega arith)
-before_free (true ∷ l) zero h = refl
-before_free (true ∷ l) (suc k) h = before_free l k (omega arith)
-before_free (false ∷ l) k h = absurd (omega arith)
+before_free l k h = not-false (get_or l k false) (fails_before_first not l k false h)
 
 before_from : (l : List Bool) (start k : ℕ) → start ≤ k → k < free_from l start → get_or l k false ≡ true
 before_from l start k s h =

@@ -1,5 +1,6 @@
 -- What a register answers, by its meaning: the refusals in the order of their numbers.
-use Rattle.std.specs.Prelude.{ℕ, Bool, true, false, cond, not, ◌&&◌, ◌||◌, List, [], ◌∷◌, length, Ok, Err, Result, ◌==◌, nat_le, slice_index_or}
+use Rattle.std.specs.Prelude.{ℕ, Bool, true, false, cond, not, ◌&&◌, List, [], ◌∷◌, length, Ok, Err, Result, ◌==◌, nat_le, slice_index_or}
+use Rattle.std.specs.List.{list_all, list_any}
 use Rattle.calculus.specs.Gates.{operands_of}
 use Rattle.calculus.specs.declared.gates.Gate.{Gate}
 use Rattle.registers.specs.declared.fault.RegisterReason.{RegisterReason}
@@ -20,12 +21,10 @@ abbrev pub refused : {A : Type 0} → (RegisterReason → ℕ) → RegisterReaso
 refused depth reason = Err (record { reason = reason; depth = depth reason })
 
 abbrev pub all_live : List Bool → List ℕ → Bool
-all_live live [] = true
-all_live live (h ∷ hs) = slice_index_or live h false && all_live live hs
+all_live live on = list_all (λ h. slice_index_or live h false) on
 
 abbrev pub among : ℕ → List ℕ → Bool
-among h [] = false
-among h (k ∷ ks) = h == k || among h ks
+among h on = list_any (λ k. h == k) on
 
 abbrev pub distinct : List ℕ → Bool
 distinct [] = true

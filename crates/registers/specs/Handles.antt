@@ -1,5 +1,6 @@
 -- The live handles of a tape or a level, and which is answered next.
-use Rattle.std.specs.Prelude.{◌≡◌, ℕ, ◌+◌, min, Bool, cond, List, [], ◌∷◌, ◌++◌, length, take, drop, nat_lt, slice_set}
+use Rattle.std.specs.Prelude.{◌≡◌, ℕ, ◌+◌, min, Bool, cond, not, List, ◌++◌, length, take, drop, nat_lt, slice_set}
+use Rattle.std.specs.List.{position_or_len}
 use Rattle.calculus.specs.declared.gates.Gate.{Gate}
 use Rattle.registers.specs.declared.fault.RegisterReason.{RegisterReason}
 use Rattle.registers.specs.declared.handles.Handles.{Handles}
@@ -7,8 +8,7 @@ use Rattle.registers.specs.Meaning.{Meaning, none_live}
 
 -- the first place that is not true, or the length where there is none
 abbrev pub first_free : List Bool → ℕ
-first_free [] = 0
-first_free (b ∷ bs) = cond b (1 + first_free bs) 0
+first_free bs = position_or_len not bs
 
 -- the first place from a start on that is not true, or one past the last
 abbrev pub free_from : List Bool → ℕ → ℕ

@@ -30,13 +30,10 @@ impl<R: Register> Cap<R> {
 fn pass_on<T>(answer: Result<T, RegisterFault>) -> Result<T, RegisterFault>
     ensures { result ≡ passed_on answer }
 {
-    match answer {
-        Ok(x) => Ok(x),
-        Err(fault) => Err(RegisterFault {
-            reason: fault.reason,
-            depth: fault.depth.saturating_add(1),
-        }),
-    }
+    answer.map_err(|fault| RegisterFault {
+        depth: fault.depth.saturating_add(1),
+        ..fault
+    })
 }
 
 impl<R: Register> Register for Cap<R> {
@@ -75,9 +72,8 @@ impl<R: Register> Register for Cap<R> {
     }
 
     fn prepare(&mut self, bit: bool) -> Result<u8, RegisterFault> {
-        if self.below.pulses() > 0 && self.below.live_count() >= self.limit {
-            return Err(RegisterFault::new(RegisterReason::Full));
-        }
+        let full = self.below.pulses() > 0 && self.below.live_count() >= self.limit;
+        RegisterReason::Full.refuse_if(full)?;
         pass_on(self.below.prepare(bit))
     }
 

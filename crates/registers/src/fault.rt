@@ -1,6 +1,6 @@
 //! The refusals of a register.
 
-ghost use Rattle.std.specs.Prelude.{◌≡◌};
+ghost use Rattle.std.specs.Prelude.{◌≡◌, if◌then◌else◌};
 ghost use Rattle.registers.specs.Answers.{number_of};
 
 /// Why a register refuses a call, in the order of the numbers.
@@ -27,6 +27,16 @@ impl RegisterReason {
             RegisterReason::NotLive => 45,
             RegisterReason::GivenTwice => 46,
         }
+    }
+
+    /// Refuses for this reason where the test holds, as the outermost register.
+    pub fn refuse_if(self, test: bool) -> Result<(), RegisterFault>
+        ensures { result ≡ (if test then Err (record { reason = self; depth = 0 }) else Ok tt) }
+    {
+        if test {
+            return Err(RegisterFault::new(self));
+        }
+        Ok(())
     }
 }
 

@@ -6,7 +6,7 @@ ghost use Rattle.registers.specs.Answers.{prepare_answer, gate_answer, read_allo
 ghost use Rattle.registers.specs.Handles.{places, room, Marked, next_handle, bare, at_top};
 
 use crate::fault::{RegisterFault, RegisterReason};
-use crate::places::{are_distinct, count, free_from, holds, holds_all, put};
+use crate::places::{are_distinct, count, first_free, free_from, holds, put};
 use calculus::{Gate, HANDLES};
 
 /// Which handles are live, how many may be, and where the search for the next one begins.
@@ -54,7 +54,7 @@ impl Handles {
     fn are_live(&self, on: &[u8]) -> bool
         ensures { result ≡ all_live (places self.now.live) on.now }
     {
-        holds_all(&self.live, on)
+        on.iter().all(|handle| self.is_live(*handle))
     }
 
     // The places of the handles below the capacity.
@@ -62,7 +62,7 @@ impl Handles {
         ensures these { result.now ≡ take (room self.now) (places self.now.live) }
         ensures short { length result.now ≤ 32 }
     {
-        &self.live[0..self.capacity()]
+        &self.live[..self.capacity()]
     }
 
     // The next handle above the last answered that is not live, going round below the capacity.
@@ -70,12 +70,9 @@ impl Handles {
         ensures { result ≡ next_handle self.now }
     {
         let below = self.below();
-        let above = free_from(below, self.next);
-        if above < below.len() {
-            above as u8
-        } else {
-            free_from(below, 0) as u8
-        }
+        free_from(below, self.next)
+            .or_else(|| first_free(below))
+            .unwrap_or(below.len()) as u8
     }
 
     // Makes a handle live, or takes it out.
@@ -92,12 +89,8 @@ impl Handles {
             (λ h. Marked self.old self.new h true (h + 1))
             (λ _. self.new ≡ self.old) }
     {
-        if pulses == 0 {
-            return Err(RegisterFault::new(RegisterReason::NoPulses));
-        }
-        if self.live_count() >= self.capacity() {
-            return Err(RegisterFault::new(RegisterReason::Full));
-        }
+        RegisterReason::NoPulses.refuse_if(pulses == 0)?;
+        RegisterReason::Full.refuse_if(self.live_count() >= self.capacity())?;
         let handle = self.next_handle();
         self.mark(handle, true);
         self.next = handle as usize + 1;
@@ -114,35 +107,19 @@ impl Handles {
     ) -> Result<(), RegisterFault>
         ensures { result ≡ gate_answer (bare self.now (λ _. made) pulses) at_top gate on.now }
     {
-        if pulses == 0 {
-            return Err(RegisterFault::new(RegisterReason::NoPulses));
-        }
-        if !made {
-            return Err(RegisterFault::new(RegisterReason::GateNotMade));
-        }
-        if on.len() != gate.operands() {
-            return Err(RegisterFault::new(RegisterReason::WrongCount));
-        }
-        if !self.are_live(on) {
-            return Err(RegisterFault::new(RegisterReason::NotLive));
-        }
-        if !are_distinct(on) {
-            return Err(RegisterFault::new(RegisterReason::GivenTwice));
-        }
-        Ok(())
+        RegisterReason::NoPulses.refuse_if(pulses == 0)?;
+        RegisterReason::GateNotMade.refuse_if(!made)?;
+        RegisterReason::WrongCount.refuse_if(on.len() != gate.operands())?;
+        RegisterReason::NotLive.refuse_if(!self.are_live(on))?;
+        RegisterReason::GivenTwice.refuse_if(!are_distinct(on))
     }
 
     /// Whether a handle may be read.
     pub fn allow_read(&self, pulses: u64, handle: u8) -> Result<(), RegisterFault>
         ensures { result ≡ read_allowed (bare self.now (λ _. true) pulses) at_top handle }
     {
-        if pulses == 0 {
-            return Err(RegisterFault::new(RegisterReason::NoPulses));
-        }
-        if !self.is_live(handle) {
-            return Err(RegisterFault::new(RegisterReason::NotLive));
-        }
-        Ok(())
+        RegisterReason::NoPulses.refuse_if(pulses == 0)?;
+        RegisterReason::NotLive.refuse_if(!self.is_live(handle))
     }
 
     /// Takes a live handle out.
@@ -152,9 +129,7 @@ impl Handles {
             (λ _. Marked self.old self.new handle false self.old.next)
             (λ _. self.new ≡ self.old) }
     {
-        if !self.is_live(handle) {
-            return Err(RegisterFault::new(RegisterReason::NotLive));
-        }
+        RegisterReason::NotLive.refuse_if(!self.is_live(handle))?;
         self.mark(handle, false);
         Ok(())
     }

@@ -3,7 +3,7 @@
 use calculus::Gate;
 
 /// What a pulse did. The operands of a gate stand in front, 0 after them.
-#[derive(Clone, Copy, Drop)]
+#[derive(Clone, Copy, PartialEq, Eq, Debug, Drop)]
 pub enum Entry {
     Empty,
     Prepare { handle: u8, bit: bool },

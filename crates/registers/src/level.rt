@@ -85,10 +85,7 @@ impl Register for Level {
     }
 
     fn makes(&self, gate: Gate) -> bool {
-        match gate {
-            Gate::X | Gate::Cnot | Gate::Swap | Gate::Toffoli => true,
-            Gate::H | Gate::Z | Gate::S | Gate::T => false,
-        }
+        matches!(gate, Gate::X | Gate::Cnot | Gate::Swap | Gate::Toffoli)
     }
 
     fn is_live(&self, handle: u8) -> bool {

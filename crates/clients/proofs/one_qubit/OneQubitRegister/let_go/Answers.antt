@@ -1,6 +1,9 @@
-use Rattle.std.proofs.Common.{sym, rules}
+use Rattle.std.proofs.Common.{◌≡◌, true, false, get_or, rules}
+use Rattle.clients.specs.Qubit.{qubit_live}
 use Rattle.clients.proofs.Qubit.{live_zero}
 use Rattle.clients.proofs.one_qubit.OneQubitRegister.let_go.Goals as goal
 
-pub returns : goal.returns
-returns c = let e = live_zero c.args.self.now.live c.args.handle (sym c.if-not-is_live.ensures) in rw e (search rules)
+pub returns-clause-state : goal.returns-clause-state
+returns-clause-state c =
+    let live : get_or (qubit_live c.args.self.now.live) c.args.handle false ≡ true = search rules in
+    rw (live_zero c.args.self.now.live c.args.handle live) (search rules)
