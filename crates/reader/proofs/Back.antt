@@ -7,12 +7,11 @@ use Rattle.calculus.specs.declared.cells.TermCell.{TermCell}
 use Rattle.calculus.specs.declared.cells.TypeCell.{TypeCell}
 use Rattle.reader.specs.declared.faults.ReadReason.{ReadReason}
 use Rattle.reader.specs.declared.faults.ReadReason.TheVariants as reason
-use Rattle.reader.specs.declared.reading.Place.{Place}
 use Rattle.reader.specs.declared.sections.Section.{Section}
 use Rattle.reader.specs.declared.sections.Section.TheVariants as section
 use Rattle.reader.specs.Cells.{two_numbers, has_room}
 use Rattle.reader.specs.Lines.{Said, term, counts, said}
-use Rattle.reader.specs.Reading.{Outcome, left, with_kind, to_kinds, with_op, to_ops, with_counts, line_read, by_answer, after_line, reads}
+use Rattle.reader.specs.Reading.{Place, Outcome, left, with_kind, to_kinds, with_op, to_ops, with_counts, line_read, by_answer, after_line, reads}
 use Rattle.reader.specs.Stored.{kind_line, op_line, end_line, KindKnown, OpKnown}
 use Rattle.reader.proofs.Came.{place, InBody, Within}
 use Rattle.reader.proofs.Spellings.{said_kind, kind_back, said_op, op_back, said_end, numbers_back}

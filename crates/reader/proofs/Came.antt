@@ -8,12 +8,11 @@ use Rattle.calculus.specs.declared.cells.TypeCell.{TypeCell}
 use Rattle.reader.specs.declared.faults.ReadFault.{ReadFault}
 use Rattle.reader.specs.declared.faults.ReadReason.{ReadReason}
 use Rattle.reader.specs.declared.faults.ReadReason.TheVariants as reason
-use Rattle.reader.specs.declared.reading.Place.{Place}
 use Rattle.reader.specs.declared.sections.Section.{Section}
 use Rattle.reader.specs.declared.sections.Section.TheVariants as section
 use Rattle.reader.specs.Cells.{kind_cell, op_cell, two_numbers, has_room}
 use Rattle.reader.specs.Lines.{Said, header, kind, term, counts, other, said}
-use Rattle.reader.specs.Reading.{Left, Outcome, left, fault, agreeing, with_kind, to_kinds, with_op, to_ops, with_counts, line_read, after_line, reads}
+use Rattle.reader.specs.Reading.{Place, Left, Outcome, left, fault, agreeing, with_kind, to_kinds, with_op, to_ops, with_counts, line_read, after_line, reads}
 use Rattle.reader.specs.Stored.{kind_line, op_line, end_line, KindKnown, OpKnown}
 use Rattle.reader.proofs.Spellings.{Spelled, spelled, kind_is, op_is, end_is}
 use Rattle.reader.proofs.Tables.{puts, room_is}

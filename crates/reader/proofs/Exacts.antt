@@ -180,6 +180,13 @@ read_back ks os ts ms f =
     ∙ ap (λ xs. left (Ok (length ks, length os)) xs (puts 0 os ms)) (puts_front ks ts f.kinds_within.1)
     ∙ ap (λ xs. left (Ok (length ks, length os)) (fronted ks ts) xs) (puts_front os ms f.ops_within.1)
 
+-- what a read leaves, from its parts
+pub from_parts : (text : List ℕ) (ts : List TypeCell) (ms : List TermCell) (r : Result (ℕ × ℕ) ReadFault) (us : List TypeCell) (ns : List TermCell)
+    → r ≡ (reading text ts ms).answer → us ≡ (reading text ts ms).types → ns ≡ (reading text ts ms).terms → left r us ns ≡ reading text ts ms
+from_parts text ts ms r us ns a u n =
+    let o = reading text ts ms in
+    ap (λ x. left x us ns) a ∙ ap (λ xs. left o.answer xs ns) u ∙ ap (λ xs. left o.answer o.types xs) n
+
 -- what a read has done, by cases on its answer
 pub done : (text : List ℕ) (ts : List TypeCell) (ms : List TermCell) (r : Result (ℕ × ℕ) ReadFault) (us : List TypeCell) (ns : List TermCell)
     → left r us ns ≡ reading text ts ms → Done text ts ms r us ns

@@ -1,9 +1,9 @@
 -- Texts that lack a mark, and pieces put together again.
 use Rattle.std.proofs.Common.{◌≡◌, ℕ, true, false, eqb, ◌⊎◌, List, [], ◌∷◌, ◌++◌, sym, refl, ap, ◌∙◌, inl, inr}
-use Rattle.std.specs.List.{AllByRecursion}
 use Rattle.std.proofs.lemmas.List.{append_assoc, append-nil}
 use Rattle.std.proofs.lemmas.Bool.{cases_Bool, cond-true, cond-false, eqb-true}
-use Rattle.reader.specs.Pieces.{longer, pieces}
+use Rattle.std.specs.List.{AllByRecursion, onto_first}
+use Rattle.reader.specs.Pieces.{pieces}
 use Rattle.reader.specs.Stored.{text_of}
 use Rattle.reader.proofs.Cuts.{at_mark, at_other, some_piece}
 
@@ -19,13 +19,13 @@ glued mark (p ∷ q ∷ ps) = p ++ (mark ∷ glued mark (q ∷ ps))
 module _ (mark : ℕ) where
   pub lone : (xs : List ℕ) → Lacks mark xs → pieces mark xs ≡ xs ∷ []
   lone [] h = refl
-  lone (x ∷ xs) h = at_other mark x xs h.0 ∙ ap (longer x) (lone xs h.1)
+  lone (x ∷ xs) h = at_other mark x xs h.0 ∙ ap (onto_first x) (lone xs h.1)
 
   pub cut_off : (xs ys : List ℕ) → Lacks mark xs → pieces mark (xs ++ (mark ∷ ys)) ≡ xs ∷ pieces mark ys
   cut_off [] ys h = at_mark mark mark ys refl
-  cut_off (x ∷ xs) ys h = at_other mark x (xs ++ (mark ∷ ys)) h.0 ∙ ap (longer x) (cut_off xs ys h.1)
+  cut_off (x ∷ xs) ys h = at_other mark x (xs ++ (mark ∷ ys)) h.0 ∙ ap (onto_first x) (cut_off xs ys h.1)
 
-  glue_longer : (x : ℕ) (p : List ℕ) (ps : List (List ℕ)) → glued mark (longer x (p ∷ ps)) ≡ x ∷ glued mark (p ∷ ps)
+  glue_longer : (x : ℕ) (p : List ℕ) (ps : List (List ℕ)) → glued mark (onto_first x (p ∷ ps)) ≡ x ∷ glued mark (p ∷ ps)
   glue_longer x p [] = refl
   glue_longer x p (q ∷ ps) = refl
 
@@ -35,7 +35,7 @@ module _ (mark : ℕ) where
       ap (glued mark) (cond-true _ _ _ e ∙ ap (λ qs. [] ∷ qs) c) ∙ ap (λ ys. mark ∷ ys) (ap (glued mark) (sym c) ∙ h) ∙ ap (λ y. y ∷ xs) (sym (eqb-true x mark e))
   glue_more x xs h (inr e) =
       let (p, ps, c) = some_piece mark xs in
-      ap (glued mark) (cond-false _ _ _ e ∙ ap (longer x) c) ∙ glue_longer x p ps ∙ ap (λ ys. x ∷ ys) (ap (glued mark) (sym c) ∙ h)
+      ap (glued mark) (cond-false _ _ _ e ∙ ap (onto_first x) c) ∙ glue_longer x p ps ∙ ap (λ ys. x ∷ ys) (ap (glued mark) (sym c) ∙ h)
 
   pub glue : (xs : List ℕ) → glued mark (pieces mark xs) ≡ xs
   glue [] = refl

@@ -5,7 +5,6 @@ use Rattle.calculus.specs.declared.cells.TypeCell.{TypeCell}
 use Rattle.reader.specs.declared.faults.ReadFault.{ReadFault}
 use Rattle.reader.specs.declared.faults.ReadReason.{ReadReason}
 use Rattle.reader.specs.declared.faults.ReadReason.TheVariants as reason
-use Rattle.reader.specs.declared.reading.Place.{Place}
 use Rattle.reader.specs.declared.sections.Section.{Section}
 use Rattle.reader.specs.declared.sections.Section.TheVariants as section
 use Rattle.reader.specs.Cells.{kind_cell, op_cell, two_numbers, next_place, with_cell}
@@ -21,6 +20,13 @@ pub record Left (X : Type 0) : Type 0 where
 -- the same, from its parts
 abbrev pub left : {X : Type 0} → X → List TypeCell → List TermCell → Left X
 left x ts ms = record { answer = x; types = ts; terms = ms }
+
+-- where a read stands: its section, the cells so far, and whether the end line, once read, counts just these
+pub record Place : Type 0 where
+  pub section : Section
+  pub kinds : ℕ
+  pub ops : ℕ
+  pub agrees : Bool
 
 -- a read begins in the header section, with no cell
 abbrev pub start : Place

@@ -1,7 +1,7 @@
 //! The cells that lines say, and their places in the tables.
 
-ghost use Rattle.std.specs.Prelude.{◌≡◌};
-ghost use Rattle.reader.specs.Cells.{letter_in, kind_cell, op_cell, two_numbers, next_place, with_cell};
+ghost use Rattle.std.specs.Prelude.{◌≡◌, ◌==◌};
+ghost use Rattle.reader.specs.Cells.{letter_in, kind_cell, op_cell, two_numbers, next_place, with_cell, leaves};
 
 use crate::faults::ReadReason;
 use crate::numbers::number;
@@ -48,20 +48,51 @@ pub fn term_cell(op: &[u8], argument: &[u8], claim: &[u8]) -> Result<TermCell, R
 pub fn numbers(first: &[u8], second: &[u8]) -> Result<(u16, u16), ReadReason>
     ensures { result ≡ two_numbers first.now second.now }
 {
-    match (number(first), number(second)) {
-        (Some(first), Some(second)) => Ok((first, second)),
-        _ => Err(ReadReason::Number),
-    }
+    number(first).zip(number(second)).ok_or(ReadReason::Number)
 }
 
-/// Writes a cell at a place of a table, below a limit, and answers the next place.
-pub fn put<T: Copy>(table: &mut [T], at: usize, most: usize, cell: T) -> Result<usize, ReadReason>
-    ensures answer { result ≡ next_place most table.old at }
-    ensures table { table.new ≡ with_cell most table.old at cell }
-{
-    if at >= most || at >= table.len() {
-        return Err(ReadReason::Full);
+/// The front of a table: the cells that have gone into it, with the room behind them.
+#[derive(Drop)]
+pub struct Front<'a, T> {
+    cells: &'a mut [T],
+    count: usize,
+}
+
+impl<'a, T: Copy> Front<'a, T> {
+    /// A table that no cell has gone into.
+    pub fn new(cells: &'a mut [T]) -> Front<'a, T>
+        ensures same_table { result.cells.ghost_name ≡ cells.entry.ghost_name }
+        ensures cells { result.cells.now ≡ cells.entry.now }
+        ensures empty { result.count ≡ 0 }
+    {
+        Front { cells, count: 0 }
     }
-    table[at] = cell;
-    Ok(at + 1)
+
+    /// How many cells have gone into it.
+    pub fn count(&self) -> usize
+        ensures { result ≡ self.now.count }
+    {
+        self.count
+    }
+
+    /// Whether just so many cells have gone into it.
+    pub fn holds(&self, cells: u16) -> bool
+        ensures { result ≡ (cells == self.now.count) }
+    {
+        usize::from(cells) == self.count
+    }
+
+    /// Puts a cell behind the earlier ones, below a limit.
+    pub fn push(&mut self, most: usize, cell: T) -> Result<(), ReadReason>
+        ensures same_table { self.new.cells.ghost_name ≡ self.old.cells.ghost_name }
+        ensures answer { leaves result self.new.count ≡ next_place most self.old.cells.now self.old.count }
+        ensures cells { self.new.cells.now ≡ with_cell most self.old.cells.now self.old.count cell }
+    {
+        if self.count >= most || self.count >= self.cells.len() {
+            return Err(ReadReason::Full);
+        }
+        self.cells[self.count] = cell;
+        self.count += 1;
+        Ok(())
+    }
 }

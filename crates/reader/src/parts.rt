@@ -10,10 +10,6 @@ pub fn parted(text: &[u8], mark: u8) -> Option<(&[u8], &[u8])>
         (λ p. pieces mark text.now ≡ p.0.now ∷ pieces mark p.1.now) }
     ensures shorter { IfSome result (λ p. length p.1.now < length text.now) }
 {
-    for (i, b) in text.iter().enumerate() {
-        if *b == mark {
-            return Some((&text[0..i], &text[i + 1..]));
-        }
-    }
-    None
+    let at = text.iter().position(|b| *b == mark)?;
+    Some((&text[..at], &text[at + 1..]))
 }

@@ -1,15 +1,22 @@
-use Rattle.std.proofs.Common.{sym, ◌∙◌, rules}
-use Rattle.reader.proofs.Cuts.{ahead_none, passes, stops, runs_out}
+use Rattle.std.proofs.Common.{◌≡◌, ◌==◌, [], ◌∷◌, MatchOption, sym, ◌∙◌, subst, rules, tests}
+use Rattle.std.specs.List.{position}
+use Rattle.std.proofs.lemmas.Iterator.{YieldsList-from_slice}
+use Rattle.std.proofs.lemmas.Iterator.Search.{position_from_yields_List}
+use Rattle.reader.specs.Pieces.{pieces}
+use Rattle.reader.proofs.Cuts.{first_piece, no_mark}
 use Rattle.reader.proofs.parts.parted.Goals as goal
 
-pub loop-i-init : goal.loop-i-init
-loop-i-init c = sym (ahead_none c.args.mark c.args.text.now)
+pub returns-in_err-at-clause-parts : goal.returns-in_err-at-clause-parts
+returns-in_err-at-clause-parts c =
+    let text = c.args.text.now in
+    let found : c.position.result ≡ position (λ b. b == c.args.mark) text =
+    position_from_yields_List (λ b. b == c.args.mark) _ _ c.position.result c.position.ensures.ran (YieldsList-from_slice text (cc)) (λ x b q k. search (rules, tests)) in
+    subst (λ r. MatchOption r (pieces c.args.mark text ≡ text ∷ []) (λ p. pieces c.args.mark text ≡ p.0.now ∷ pieces c.args.mark p.1.now)) (sym c.from_residual.ensures)
+    (no_mark c.args.mark text (sym found ∙ c.in_err-at.was))
 
-pub returns-then-b-mark : goal.returns-then-b-mark
-returns-then-b-mark c = record { parts = c.loop-i.invariant ∙ stops c.args.mark c.args.text.now c.loop-i.i c.loop-i-test.true c.if-b-mark.true; shorter = search rules }
-
-pub loop-i-preserved : goal.loop-i-preserved
-loop-i-preserved c = c.loop-i.invariant ∙ passes c.args.mark c.args.text.now c.loop-i.i c.loop-i-test.true c.if-b-mark.false
-
-pub returns : goal.returns
-returns c = record { parts = c.loop-i.invariant ∙ runs_out c.args.mark c.args.text.now c.loop-i.i c.loop-i-test.false; shorter = tt }
+pub returns-clause-parts : goal.returns-clause-parts
+returns-clause-parts c =
+    let text = c.args.text.now in
+    let found : c.position.result ≡ position (λ b. b == c.args.mark) text =
+    position_from_yields_List (λ b. b == c.args.mark) _ _ c.position.result c.position.ensures.ran (YieldsList-from_slice text (cc)) (λ x b q k. search (rules, tests)) in
+    first_piece c.args.mark text c.in_ok-at.at (sym found ∙ c.in_ok-at.was)
