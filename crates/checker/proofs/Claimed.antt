@@ -1,30 +1,25 @@
--- What the typing rules ask of the node at a place, by the claims of its parts.
-use Rattle.std.proofs.Common.{◌≡◌, ℕ, ◌+◌, Bool, List, sym, ap, ap₂, ◌∙◌}
-use Rattle.calculus.specs.declared.cells.TypeCell.{TypeCell}
-use Rattle.calculus.specs.declared.cells.TermCell.{TermCell}
-use Rattle.calculus.specs.Reading.{type_at, term_at}
+-- What the typing rules ask of a node, by the claims of its parts.
+use Rattle.std.proofs.Common.{◌≡◌, ◌+◌, Bool, List, sym, ap, ap₂, ◌∙◌}
 use Rattle.calculus.specs.Terms.{Term, claim_of}
 use Rattle.calculus.specs.Types.{Ty}
-use Rattle.checker.specs.Ending.{tree_end}
-use Rattle.checker.specs.Meaning.{meaning}
-use Rattle.checker.proofs.Nodes.{Two, Three, claim_reclaimed}
+use Rattle.checker.specs.Judging.{term_of, term_near, PartOf}
+use Rattle.checker.specs.declared.program.Node.{Node}
+use Rattle.checker.proofs.Nodes.{IsTwo, part_term, if_here, second_at, third_at}
+use Rattle.checker.specs.Judging.{cell_of}
 use Rattle.verdict.specs.Claims.{condition_fits, claims_fit}
 
--- a part's claim, by the place that its cell claims
-part_type : (types : List TypeCell) (terms : List TermCell) (p c : ℕ) → c ≡ claim_of (term_at terms p) → type_at types c ≡ claim_of (meaning types terms p)
-part_type types terms p c e = ap (type_at types) e ∙ sym (claim_reclaimed (type_at types) (term_at terms p))
-
 -- a node of two parts
-pub two_claimed : (types : List TypeCell) (terms : List TermCell) (at c : ℕ) (join : Ty → Term Ty → Term Ty → Term Ty) (bs : List Ty) (test : Ty → Ty → Ty → Bool) → ((c : Ty) (m n : Term Ty) → claims_fit bs (join c m n) ≡ test c (claim_of m) (claim_of n))
-    → Two types terms at c join → (i j : ℕ) → i ≡ claim_of (term_at terms (at + 1)) → j ≡ claim_of (term_at terms (tree_end terms (at + 1))) → test (type_at types c) (type_at types i) (type_at types j) ≡ claims_fit bs (meaning types terms at)
-two_claimed types terms at c join bs test f t i j e g =
-    ap₂ (test (type_at types c)) (part_type types terms (at + 1) i e) (part_type types terms (tree_end terms (at + 1)) j g)
-    ∙ sym (f (type_at types c) (meaning types terms (at + 1)) (meaning types terms (tree_end terms (at + 1))))
-    ∙ sym (ap (claims_fit bs) t.is)
+pub two_claimed : (n a b : Node) (join : Ty → Term Ty → Term Ty → Term Ty) (bs : List Ty) (test : Ty → Ty → Ty → Bool) → ((c : Ty) (x y : Term Ty) → claims_fit bs (join c x y) ≡ test c (claim_of x) (claim_of y))
+    → IsTwo n join → PartOf n 0 a → PartOf n 1 b → (c x y : Ty) → c ≡ claim_of (term_of n) → x ≡ claim_of (term_of a) → y ≡ claim_of (term_of b) → test c x y ≡ claims_fit bs (term_of n)
+two_claimed n a b join bs test f t pa pb c x y e g h =
+    ap₂ (test c) (g ∙ ap claim_of (part_term n 0 a pa)) (h ∙ ap claim_of (part_term n 1 b pb))
+    ∙ ap (λ c. test c (claim_of (term_near n (n.at + 1))) (claim_of (term_near n (second_at n)))) e
+    ∙ sym (f (claim_of (term_of n)) (term_near n (n.at + 1)) (term_near n (second_at n)))
+    ∙ sym (ap (claims_fit bs) t)
 
-pub three_claimed : (types : List TypeCell) (terms : List TermCell) (at c : ℕ) (bs : List Ty) → Three types terms at c → (i j k : ℕ) → i ≡ claim_of (term_at terms (at + 1)) → j ≡ claim_of (term_at terms (tree_end terms (at + 1)))
-    → k ≡ claim_of (term_at terms (tree_end terms (tree_end terms (at + 1)))) → condition_fits (type_at types c) (type_at types i) (type_at types j) (type_at types k) ≡ claims_fit bs (meaning types terms at)
-three_claimed types terms at c bs t i j k e g h =
-    ap₂ (λ i j. condition_fits (type_at types c) i j (type_at types k)) (part_type types terms (at + 1) i e) (part_type types terms (tree_end terms (at + 1)) j g)
-    ∙ ap (condition_fits (type_at types c) (claim_of (meaning types terms (at + 1))) (claim_of (meaning types terms (tree_end terms (at + 1))))) (part_type types terms (tree_end terms (tree_end terms (at + 1))) k h)
-    ∙ sym (ap (claims_fit bs) t.is)
+pub three_claimed : (n a b d : Node) (bs : List Ty) → (cell_of n).op ≡ 105 → PartOf n 0 a → PartOf n 1 b → PartOf n 2 d → (c x y z : Ty) → c ≡ claim_of (term_of n) → x ≡ claim_of (term_of a) → y ≡ claim_of (term_of b) → z ≡ claim_of (term_of d)
+    → condition_fits c x y z ≡ claims_fit bs (term_of n)
+three_claimed n a b d bs k pa pb pd c x y z e g h i =
+    ap₂ (condition_fits c x) (h ∙ ap claim_of (part_term n 1 b pb)) (i ∙ ap claim_of (part_term n 2 d pd))
+    ∙ ap₂ (λ c x. condition_fits c x (claim_of (term_near n (second_at n))) (claim_of (term_near n (third_at n)))) e (g ∙ ap claim_of (part_term n 0 a pa))
+    ∙ sym (ap (claims_fit bs) (if_here n k))

@@ -1,22 +1,21 @@
 -- The tests of a cell as the tests of the node that it means.
-use Rattle.std.proofs.Common.{◌≡◌, ℕ, zero, suc, ◌+◌, ◌<◌, Bool, true, false, cond, eqb, ltb, leb, List, [], ◌∷◌, length, get_or, is_some, Err, sym, refl, ap, ◌∙◌, subst, ap₂, inl, inr, arith}
+use Rattle.std.proofs.Common.{◌≡◌, ℕ, zero, suc, ◌+◌, ◌<◌, Bool, true, false, cond, eqb, ltb, leb, List, [], ◌∷◌, length, is_some, Err, sym, refl, ap, ◌∙◌, subst, ap₂, inl, inr, arith}
 use Rattle.std.specs.List.{slice_get}
-use Rattle.std.proofs.lemmas.Bool.{ltb-true, lt-ltb, le-ltb, cases_lt}
+use Rattle.std.proofs.lemmas.Bool.{lt-ltb, le-ltb, cases_lt}
 use Rattle.calculus.specs.declared.cells.TermCell.{TermCell}
 use Rattle.calculus.specs.Letters.{Letter, at_v, at_q, at_g, at_0, at_1, at_m, at_n, at_s, at_l, at_a, at_p, at_d, at_i, other, letter, arguments_of}
 use Rattle.calculus.specs.Reading.{top, no_term, read_term, type_at}
 use Rattle.calculus.specs.Terms.{Term, bound, reclaimed}
 use Rattle.calculus.specs.Types.{Ty}
-use Rattle.calculus.proofs.Reading.{T_true}
 use Rattle.calculus.proofs.ReadTerms.{code, Coded, coded}
-use Rattle.checker.specs.Judging.{Judged, node, around}
-use Rattle.checker.specs.Scoping.{depth_tested}
+use Rattle.checker.specs.Judging.{types_of, terms_of, cell_of, term_of}
+use Rattle.checker.specs.Scoping.{in_scope, depth, depth_tested}
 use Rattle.checker.specs.Scoping.{binders_of as letter_binders}
-use Rattle.checker.specs.declared.program.Program.{Program}
+use Rattle.checker.specs.declared.program.Node.{Node}
 use Rattle.checker.specs.declared.scope.Scope.{Scope}
-use Rattle.checker.proofs.Clearing.{depth_of}
-use Rattle.checker.proofs.Nodes.{not_qubit}
-use Rattle.checker.proofs.Trees.{here, by_cell, trees}
+use Rattle.checker.proofs.Showing.{depth_is}
+use Rattle.checker.proofs.Nodes.{not_qubit, read, argument_allowed}
+use Rattle.checker.proofs.Trees.{trees}
 use Rattle.verdict.specs.Claims.{claims_fit}
 use Rattle.verdict.specs.Faults.{Verdict, accepted, must, ◌then◌}
 use Rattle.verdict.specs.Judging.{binders_of, is_stored, is_bound, entering}
@@ -64,33 +63,32 @@ split_cond true true f g v = refl
 split_cond true false f g v = refl
 split_cond false b f g v = refl
 
-module _ (p : Program) (j : Judged p) (at : ℕ) (d : TermCell) (l : at < length p.terms.now) (s : Scope) where
-  asked : Asked (around p s) (get_or p.terms.now at d).op (get_or p.terms.now at d).argument (node p at)
+module _ (n : Node) (s : Scope) where
+  asked : Asked (in_scope s) (cell_of n).op (cell_of n).argument (term_of n)
   asked =
-      let terms = p.terms.now in
-      let c = get_or terms at d in
-      let a = ltb-true c.argument (arguments_of (letter c.op)) (T_true _ (here terms j.tables.terms_stand at d l).0) in
-      let e = its_code c.op (letter c.op) c.argument (coded c.op) a in
-      let n = not_qubit p.types.now terms j.tables at d l in
-      let r = asked_by (type_at p.types.now) (around p s) (letter c.op) c.argument c.claim (trees terms (at + 1)) a (λ z. n (e ∙ z)) in
-      subst (λ m. Asked (around p s) c.op c.argument m) (sym (ap (reclaimed (type_at p.types.now)) (by_cell terms j.tables.terms_stand at d l))) (subst (λ o. Asked (around p s) o c.argument (reclaimed (type_at p.types.now) (top no_term (read_term (letter c.op) c.argument c.claim (trees terms (at + 1)))))) (sym e) r)
+      let c = cell_of n in
+      let l = letter c.op in
+      let e = its_code c.op l c.argument (coded c.op) (argument_allowed n) in
+      let r = asked_by (type_at (types_of n)) (in_scope s) l c.argument c.claim (trees (terms_of n) (n.at + 1)) (argument_allowed n) (λ z. not_qubit n (e ∙ z)) in
+      subst (λ m. Asked (in_scope s) c.op c.argument m) (sym (ap (reclaimed (type_at (types_of n))) (read n))) (subst (λ o. Asked (in_scope s) o c.argument (reclaimed (type_at (types_of n)) (top no_term (read_term l c.argument c.claim (trees (terms_of n) (n.at + 1)))))) (sym e) r)
 
   -- the tests of the binders, then of the claims
-  pub entering_is : entering at (around p s) (node p at) ≡ (depth_tested at (get_or p.terms.now at d).op (get_or p.terms.now at d).argument s.depth then must (claims_fit (around p s) (node p at)) (WrongClaim at) accepted)
+  pub entering_is : entering n.at (in_scope s) (term_of n) ≡ (depth_tested n.at (cell_of n).op (cell_of n).argument (depth s) then must (claims_fit (in_scope s) (term_of n)) (WrongClaim n.at) accepted)
   entering_is =
-      let c = get_or p.terms.now at d in
-      let bs = around p s in
-      let n = depth_of p.types.now s.binders s.depth in
-      let claims = must (claims_fit bs (node p at)) (WrongClaim at) accepted in
-      ap (λ b. must b (BadCell at) (must (leb (length bs + binders_of (node p at)) 32) (TooDeep at) (must (is_bound bs (node p at)) (NoBinder at) claims))) asked.stored
-      ∙ ap₂ (λ a b. must (leb a 32) (TooDeep at) (must b (NoBinder at) claims)) (ap₂ ◌+◌ n asked.binders) (asked.has_binder ∙ ap (λ n. cond (eqb c.op 118) (ltb c.argument n) true) n)
-      ∙ split_cond (leb (s.depth + letter_binders c.op) 32) (cond (eqb c.op 118) (ltb c.argument s.depth) true) (TooDeep at) (NoBinder at) claims
+      let c = cell_of n in
+      let bs = in_scope s in
+      let d = depth_is s in
+      let claims = must (claims_fit bs (term_of n)) (WrongClaim n.at) accepted in
+      ap (λ b. must b (BadCell n.at) (must (leb (length bs + binders_of (term_of n)) 32) (TooDeep n.at) (must (is_bound bs (term_of n)) (NoBinder n.at) claims))) asked.stored
+      ∙ ap₂ (λ a b. must (leb a 32) (TooDeep n.at) (must b (NoBinder n.at) claims)) (ap₂ ◌+◌ d asked.binders) (asked.has_binder ∙ ap (λ d. cond (eqb c.op 118) (ltb c.argument d) true) d)
+      ∙ split_cond (leb (depth s + letter_binders c.op) 32) (cond (eqb c.op 118) (ltb c.argument (depth s)) true) (TooDeep n.at) (NoBinder n.at) claims
 
-  pub depth_refused : (f : CheckFault) → Err f ≡ depth_tested at (get_or p.terms.now at d).op (get_or p.terms.now at d).argument s.depth → Err f ≡ entering at (around p s) (node p at)
-  depth_refused f h = ap (λ v. v then must (claims_fit (around p s) (node p at)) (WrongClaim at) accepted) h ∙ sym entering_is
+  pub depth_refused : (f : CheckFault) (c : TermCell) (d : ℕ) → c ≡ cell_of n → d ≡ depth s → Err f ≡ depth_tested n.at c.op c.argument d → Err f ≡ entering n.at (in_scope s) (term_of n)
+  depth_refused f c d e q h = ap (λ v. v then must (claims_fit (in_scope s) (term_of n)) (WrongClaim n.at) accepted) (h ∙ ap₂ (λ (c : TermCell) d. depth_tested n.at c.op c.argument d) e q) ∙ sym entering_is
 
-  pub claims_tested : (b : Bool) → accepted ≡ depth_tested at (get_or p.terms.now at d).op (get_or p.terms.now at d).argument s.depth → b ≡ claims_fit (around p s) (node p at) → must b (WrongClaim at) accepted ≡ entering at (around p s) (node p at)
-  claims_tested b h e = ap (λ b. must b (WrongClaim at) accepted) e ∙ ap (λ v. v then must (claims_fit (around p s) (node p at)) (WrongClaim at) accepted) h ∙ sym entering_is
+  pub claims_tested : (b : Bool) (c : TermCell) (d : ℕ) → c ≡ cell_of n → d ≡ depth s → accepted ≡ depth_tested n.at c.op c.argument d → b ≡ claims_fit (in_scope s) (term_of n) → must b (WrongClaim n.at) accepted ≡ entering n.at (in_scope s) (term_of n)
+  claims_tested b c d q r h e =
+      ap (λ b. must b (WrongClaim n.at) accepted) e ∙ ap (λ v. v then must (claims_fit (in_scope s) (term_of n)) (WrongClaim n.at) accepted) (h ∙ ap₂ (λ (c : TermCell) d. depth_tested n.at c.op c.argument d) q r) ∙ sym entering_is
 
 -- a cell of none of these letters uses no binder
 leaf_unused : (f : ℕ → Ty) (op : ℕ) (l : Letter) (x c : ℕ) (ms : List (Term ℕ)) → Coded op l → (op ≡ 118 → ⊥) → (op ≡ 108 → ⊥) → (op ≡ 97 → ⊥) → (op ≡ 112 → ⊥) → (op ≡ 100 → ⊥) → (op ≡ 105 → ⊥)
@@ -116,11 +114,9 @@ leaf_unused f op at_i x c ms (inl e) nv nl na np nd ni i = absurd (omega (arith,
 leaf_unused f op at_i x c ms (inr e) nv nl na np nd ni i = absurd (ni e)
 leaf_unused f op other x c ms e nv nl na np nd ni i = refl
 
-pub unused : (p : Program) (j : Judged p) (at : ℕ) (d : TermCell) → at < length p.terms.now
-    → ((get_or p.terms.now at d).op ≡ 118 → ⊥) → ((get_or p.terms.now at d).op ≡ 108 → ⊥) → ((get_or p.terms.now at d).op ≡ 97 → ⊥) → ((get_or p.terms.now at d).op ≡ 112 → ⊥) → ((get_or p.terms.now at d).op ≡ 100 → ⊥) → ((get_or p.terms.now at d).op ≡ 105 → ⊥)
-    → (i : ℕ) → uses (node p at) (bound i) ≡ false
-unused p j at d l nv nl na np nd ni i =
-    let terms = p.terms.now in
-    let c = get_or terms at d in
-    ap (λ m. uses (reclaimed (type_at p.types.now) m) (bound i)) (by_cell terms j.tables.terms_stand at d l)
-    ∙ leaf_unused (type_at p.types.now) c.op (letter c.op) c.argument c.claim (trees terms (at + 1)) (coded c.op) nv nl na np nd ni i
+pub unused : (n : Node) (c : TermCell) → c ≡ cell_of n → (c.op ≡ 118 → ⊥) → (c.op ≡ 108 → ⊥) → (c.op ≡ 97 → ⊥) → (c.op ≡ 112 → ⊥) → (c.op ≡ 100 → ⊥) → (c.op ≡ 105 → ⊥) → (i : ℕ) → uses (term_of n) (bound i) ≡ false
+unused n c e nv nl na np nd ni i =
+    let f = type_at (types_of n) in
+    let ms = trees (terms_of n) (n.at + 1) in
+    ap (λ m. uses (reclaimed f m) (bound i)) (read n ∙ ap (λ (c : TermCell). top no_term (read_term (letter c.op) c.argument c.claim ms)) (sym e))
+    ∙ leaf_unused f c.op (letter c.op) c.argument c.claim ms (coded c.op) nv nl na np nd ni i

@@ -1,4 +1,3 @@
-pub mod Binders
 pub mod Claimed
 pub mod Clearing
 pub mod Ending

@@ -1,39 +1,38 @@
 -- The verdict on a node by the answers for its parts.
-use Rattle.std.proofs.Common.{◌≡◌, ℕ, zero, suc, ◌+◌, ◌-◌, ◌<◌, ◌≤◌, Bool, true, false, ◌||◌, T, ◌⊎◌, List, [], ◌∷◌, length, get_or, set, replicate, is_some, Some, None, Err, Option, Result, sym, refl, ap, ◌∙◌, subst, ap₂, inl, inr, arith, leb→le}
-use Rattle.std.proofs.lemmas.Bool.{eq-eqb, ne_eqb}
+use Rattle.std.proofs.Common.{◌≡◌, ℕ, zero, suc, ◌+◌, ◌-◌, ◌<◌, ◌≤◌, Bool, true, false, ◌||◌, T, ◌⊎◌, List, [], ◌∷◌, length, map, reverse, set, replicate, is_some, Err, Result, sym, refl, ap, ◌∙◌, subst, ap₂, inl, inr, arith, leb→le}
+use Rattle.std.proofs.lemmas.Bool.{eq-eqb, ne_eqb, both_ways}
 use Rattle.std.proofs.lemmas.Result.{err_from_is_err_and}
 use Rattle.std.specs.Result.{IsErrAnd}
 use Rattle.std.specs.List.{slice_get}
 use Rattle.calculus.specs.declared.cells.TermCell.{TermCell}
+use Rattle.calculus.specs.declared.cells.TypeCell.{TypeCell}
 use Rattle.calculus.specs.Reading.{type_at, term_at}
-use Rattle.calculus.specs.Stripping.{marks, core, first, second, left_of, right_of}
-use Rattle.calculus.specs.Terms.{Var, bound, under, Term, var, lam, app, pair, let_pair, claim_of, size}
-use Rattle.calculus.specs.Types.{Ty, arrow, tensor, bangs}
-use Rattle.calculus.proofs.Stripping.{T_and, same_exact}
-use Rattle.checker.specs.Ending.{tree_end}
-use Rattle.checker.specs.Judging.{Judged, Bindable, node, around, binder_count, with_binders, verdict_of}
-use Rattle.checker.specs.Scoping.{Kept, UsesOf, has, used_below}
+use Rattle.calculus.specs.Stripping.{marks, first, left_of, right_of}
+use Rattle.calculus.specs.Terms.{Var, bound, under, Term, lam, claim_of, size}
+use Rattle.calculus.specs.Types.{Ty}
+use Rattle.calculus.proofs.Reading.{T_true}
+use Rattle.checker.specs.Judging.{types_of, terms_of, cell_of, term_near, term_of, PartOf, verdict_of}
+use Rattle.checker.specs.Scoping.{UsesOf, depth, has, in_scope, used_below}
+use Rattle.checker.specs.Meaning.{meaning}
+use Rattle.checker.specs.declared.program.Node.{Node}
 use Rattle.checker.specs.declared.program.Program.{Program}
 use Rattle.checker.specs.declared.scope.Scope.{Scope}
 use Rattle.checker.specs.declared.used.Used.{Used}
-use Rattle.checker.proofs.Clearing.{depth_of}
-use Rattle.checker.proofs.Nodes.{size_reclaimed, claim_reclaimed, lam_here, app_here, pair_here, let_here, if_here, var_here, claim_placed, claim_stands, Two}
-use Rattle.checker.proofs.Showing.{Shows, shows_only, shows_either, shows_outside_two, apart_shows, scope_kept}
-use Rattle.subtyping.specs.Parting.{kind_of, parted}
-use Rattle.subtyping.specs.Placing.{Placed, bare, meant}
-use Rattle.subtyping.specs.declared.parting.Parts.{Parts}
-use Rattle.subtyping.specs.declared.relating.Marked.{Marked}
-use Rattle.subtyping.proofs.Parted.{PartsStand, parts_stand}
+use Rattle.checker.proofs.Fits.{function_none, let_none}
+use Rattle.checker.proofs.Nodes.{size_reclaimed, second_at, third_at, lam_here, app_here, pair_here, let_here, if_here, var_here, part_term}
+use Rattle.checker.proofs.Showing.{Shows, shows_only, shows_either, apart_shows, depth_is}
+use Rattle.subtyping.specs.Meaning.{meant}
+use Rattle.subtyping.specs.Parting.{Apart}
+use Rattle.subtyping.specs.declared.parting.Core.{Core}
+use Rattle.subtyping.specs.declared.parting.Core.TheVariants.{Arrow, Pair}
+use Rattle.subtyping.specs.declared.placed.TypeAt.{TypeAt}
+use Rattle.verdict.specs.Claims.{function_fits, let_fits}
 use Rattle.verdict.specs.Faults.{Verdict, accepted, ◌then◌}
-use Rattle.verdict.specs.Judging.{entering, verdict_from}
+use Rattle.verdict.specs.Judging.{entering, verdict, verdict_from}
 use Rattle.verdict.specs.Sharing.{apart, uncaptured}
 use Rattle.verdict.specs.Uses.{uses}
 use Rattle.verdict.specs.declared.faults.CheckFault.{CheckFault}
 use Rattle.verdict.proofs.Accepting.{Entered, entered}
-
-pub some_binder : (o : Option Marked) → 0 < binder_count o
-some_binder None = omega arith
-some_binder (Some b) = omega arith
 
 pub then_go : (v w : Verdict) → accepted ≡ v → (v then w) ≡ w
 then_go v w e = ap (λ v. v then w) (sym e)
@@ -45,253 +44,185 @@ then_refused f v w e = ap (λ v. v then w) e
 goes_inside : (k : ℕ) (bs : List Ty) (m n : Term Ty) (w : Verdict) → m ≡ n → verdict_from k bs n ≡ (entering k bs n then w) → accepted ≡ entering k bs m → verdict_from k bs m ≡ w
 goes_inside k bs m n w e v h = ap (verdict_from k bs) e ∙ v ∙ then_go (entering k bs n) w (h ∙ ap (entering k bs) e)
 
--- A node of two parts, the second below binders with the types cs, where the parts use what f and g say.
-pub record Twofold (p : Program) (at : ℕ) (bs cs : List Ty) (f g : Var → Bool) : Type 0 where
-  pub inside : at + 1 < length p.terms.now
-  pub inside_second : tree_end p.terms.now (at + 1) < length p.terms.now
-  pub verdict : verdict_from at bs (node p at)
-      ≡ (verdict_from (at + 1) bs (node p (at + 1)) then verdict_from (tree_end p.terms.now (at + 1)) cs (node p (tree_end p.terms.now (at + 1))) then apart at bs f g)
-  pub uses_is : (x : Var) → uses (node p at) x ≡ (f x || g x)
-
--- its verdict, where the first part is accepted
-module _ (p : Program) (at : ℕ) (bs cs : List Ty) (f g : Var → Bool) (t : Twofold p at bs cs f g) where
-  pub first_refused : (e : CheckFault) → Err e ≡ verdict_from (at + 1) bs (node p (at + 1)) → Err e ≡ verdict_from at bs (node p at)
-  first_refused e h = then_refused e _ _ h ∙ sym t.verdict
-
-  pub second_refused : (e : CheckFault) → accepted ≡ verdict_from (at + 1) bs (node p (at + 1)) → Err e ≡ verdict_from (tree_end p.terms.now (at + 1)) cs (node p (tree_end p.terms.now (at + 1))) → Err e ≡ verdict_from at bs (node p at)
-  second_refused e a h =
-      then_refused e _ (apart at bs f g) h ∙ sym (then_go (verdict_from (at + 1) bs (node p (at + 1))) _ a) ∙ sym t.verdict
-
-  pub two_shows : (u l r : Used) (d : ℕ) → d ≤ 32 → Shows l d f → Shows r d g → ((k : ℕ) → k < 32 → has u k ≡ (has l k || has r k)) → UsesOf u d (node p at)
-  two_shows u l r d w a b e = shows_either u l r d f g (uses (node p at)) w t.uses_is a b e
-
-  two_done : (v : Verdict) → accepted ≡ verdict_from (at + 1) bs (node p (at + 1)) → accepted ≡ verdict_from (tree_end p.terms.now (at + 1)) cs (node p (tree_end p.terms.now (at + 1))) → v ≡ apart at bs f g → v ≡ verdict_from at bs (node p at)
-  two_done v a b h =
-      h ∙ sym (then_go (verdict_from (tree_end p.terms.now (at + 1)) cs (node p (tree_end p.terms.now (at + 1)))) (apart at bs f g) b)
-      ∙ sym (then_go (verdict_from (at + 1) bs (node p (at + 1))) _ a) ∙ sym t.verdict
-
--- its verdict, where both parts are accepted, by the sets of what they use
-pub two_left : (p : Program) (at : ℕ) (s x : Scope) (cs : List Ty) (f g : Var → Bool) (t : Twofold p at (around p s) cs f g) (l r : Used) (v : Verdict) → Kept s x
-    → Shows l s.depth f → Shows r s.depth g → accepted ≡ verdict_from (at + 1) (around p s) (node p (at + 1)) → accepted ≡ verdict_from (tree_end p.terms.now (at + 1)) cs (node p (tree_end p.terms.now (at + 1)))
-    → v ≡ apart at (around p x) (used_below l x.depth) (used_below r x.depth) → v ≡ verdict_from at (around p s) (node p at)
-two_left p at s x cs f g t l r v k a b c d e = two_done p at (around p s) cs f g t v c d (e ∙ apart_shows p.types.now s x k at l r f g a b)
-
--- A condition and its two branches.
-pub record Threefold (p : Program) (at : ℕ) (bs : List Ty) : Type 0 where
-  pub inside : at + 1 < length p.terms.now
-  pub inside_second : tree_end p.terms.now (at + 1) < length p.terms.now
-  pub inside_third : tree_end p.terms.now (tree_end p.terms.now (at + 1)) < length p.terms.now
-  pub verdict : verdict_from at bs (node p at)
-      ≡ (verdict_from (at + 1) bs (node p (at + 1)) then verdict_from (tree_end p.terms.now (at + 1)) bs (node p (tree_end p.terms.now (at + 1)))
-      then verdict_from (tree_end p.terms.now (tree_end p.terms.now (at + 1))) bs (node p (tree_end p.terms.now (tree_end p.terms.now (at + 1))))
-      then apart at bs (uses (node p (at + 1))) (λ x. uses (node p (tree_end p.terms.now (at + 1))) x || uses (node p (tree_end p.terms.now (tree_end p.terms.now (at + 1)))) x))
-  pub uses_is : (x : Var) → uses (node p at) x ≡ (uses (node p (at + 1)) x || (uses (node p (tree_end p.terms.now (at + 1))) x || uses (node p (tree_end p.terms.now (tree_end p.terms.now (at + 1)))) x))
-
-module _ (p : Program) (at : ℕ) (bs : List Ty) (t : Threefold p at bs) where
-  abbrev pub condition_verdict : Verdict
-  condition_verdict = verdict_from (at + 1) bs (node p (at + 1))
-
-  abbrev pub then_verdict : Verdict
-  then_verdict = verdict_from (tree_end p.terms.now (at + 1)) bs (node p (tree_end p.terms.now (at + 1)))
-
-  abbrev pub else_verdict : Verdict
-  else_verdict = verdict_from (tree_end p.terms.now (tree_end p.terms.now (at + 1))) bs (node p (tree_end p.terms.now (tree_end p.terms.now (at + 1))))
-
-  abbrev pub leaving : Verdict
-  leaving = apart at bs (uses (node p (at + 1))) (λ x. uses (node p (tree_end p.terms.now (at + 1))) x || uses (node p (tree_end p.terms.now (tree_end p.terms.now (at + 1)))) x)
-
-  pub condition_refused : (e : CheckFault) → Err e ≡ condition_verdict → Err e ≡ verdict_from at bs (node p at)
-  condition_refused e h = then_refused e condition_verdict (then_verdict then else_verdict then leaving) h ∙ sym t.verdict
-
-  pub then_branch_refused : (e : CheckFault) → accepted ≡ condition_verdict → Err e ≡ then_verdict → Err e ≡ verdict_from at bs (node p at)
-  then_branch_refused e a h = then_refused e then_verdict (else_verdict then leaving) h ∙ sym (then_go condition_verdict _ a) ∙ sym t.verdict
-
-  pub else_branch_refused : (e : CheckFault) → accepted ≡ condition_verdict → accepted ≡ then_verdict → Err e ≡ else_verdict → Err e ≡ verdict_from at bs (node p at)
-  else_branch_refused e a b h = then_refused e else_verdict leaving h ∙ sym (then_go then_verdict _ b) ∙ sym (then_go condition_verdict _ a) ∙ sym t.verdict
-
-  -- what both branches use together
-  pub branches_show : (u l r : Used) (d : ℕ) → d ≤ 32 → UsesOf l d (node p (tree_end p.terms.now (at + 1))) → UsesOf r d (node p (tree_end p.terms.now (tree_end p.terms.now (at + 1)))) → ((k : ℕ) → k < 32 → has u k ≡ (has l k || has r k))
-      → Shows u d (λ x. uses (node p (tree_end p.terms.now (at + 1))) x || uses (node p (tree_end p.terms.now (tree_end p.terms.now (at + 1)))) x)
-  branches_show u l r d w a b e = shows_either u l r d (uses (node p (tree_end p.terms.now (at + 1)))) (uses (node p (tree_end p.terms.now (tree_end p.terms.now (at + 1))))) _ w (λ x. refl) a b e
-
-  pub three_shows : (u l r : Used) (d : ℕ) → d ≤ 32 → UsesOf l d (node p (at + 1)) → Shows r d (λ x. uses (node p (tree_end p.terms.now (at + 1))) x || uses (node p (tree_end p.terms.now (tree_end p.terms.now (at + 1)))) x)
-      → ((k : ℕ) → k < 32 → has u k ≡ (has l k || has r k)) → UsesOf u d (node p at)
-  three_shows u l r d w a b e = shows_either u l r d (uses (node p (at + 1))) (λ x. uses (node p (tree_end p.terms.now (at + 1))) x || uses (node p (tree_end p.terms.now (tree_end p.terms.now (at + 1)))) x) (uses (node p at)) w t.uses_is a b e
-
-  three_done : (v : Verdict) → accepted ≡ condition_verdict → accepted ≡ then_verdict → accepted ≡ else_verdict → v ≡ leaving → v ≡ verdict_from at bs (node p at)
-  three_done v a b c h = h ∙ sym (then_go else_verdict leaving c) ∙ sym (then_go then_verdict _ b) ∙ sym (then_go condition_verdict _ a) ∙ sym t.verdict
-
-pub three_left : (p : Program) (at : ℕ) (s x : Scope) (t : Threefold p at (around p s)) (l r : Used) (v : Verdict) → Kept s x
-    → UsesOf l s.depth (node p (at + 1)) → Shows r s.depth (λ x. uses (node p (tree_end p.terms.now (at + 1))) x || uses (node p (tree_end p.terms.now (tree_end p.terms.now (at + 1)))) x)
-    → accepted ≡ condition_verdict p at (around p s) t → accepted ≡ then_verdict p at (around p s) t → accepted ≡ else_verdict p at (around p s) t
-    → v ≡ apart at (around p x) (used_below l x.depth) (used_below r x.depth) → v ≡ verdict_from at (around p s) (node p at)
-three_left p at s x t l r v k a b c d e h =
-    three_done p at (around p s) t v c d e (h ∙ apart_shows p.types.now s x k at l r (uses (node p (at + 1))) (λ x. uses (node p (tree_end p.terms.now (at + 1))) x || uses (node p (tree_end p.terms.now (tree_end p.terms.now (at + 1)))) x) a b)
-
--- the verdict on a part, told in the scope that stands when it is judged
-pub part_verdict : (p : Program) (s t : Scope) (v : Verdict) (q r : ℕ) → Kept s t → q ≡ r → v ≡ verdict_from q (around p t) (node p q) → v ≡ verdict_from r (around p s) (node p r)
-part_verdict p s t v q r k e h = h ∙ ap₂ (λ q bs. verdict_from q bs (node p q)) e (scope_kept p.types.now s t k)
-
-pub part_shows : (p : Program) (s t : Scope) (u : Used) (q r : ℕ) → Kept s t → q ≡ r → UsesOf u t.depth (node p q) → Shows u s.depth (uses (node p r))
-part_shows p s t u q r k e h = subst (λ d. Shows u d (uses (node p r))) k.same_depth (subst (λ q. Shows u t.depth (uses (node p q))) e h)
-
-pub body_shows : (p : Program) (s t : Scope) (u : Used) (q r : ℕ) → Kept s t → q ≡ r → UsesOf u (t.depth + 2) (node p q) → Shows u s.depth (λ x. uses (node p r) (under (under x)))
-body_shows p s t u q r k e h = subst (λ d. Shows u d (λ x. uses (node p r) (under (under x)))) k.same_depth (shows_outside_two u t.depth (uses (node p r)) (subst (λ q. Shows u (t.depth + 2) (uses (node p q))) e h))
-
 -- the verdict of an answer that hands a fault on
 pub told : {A : Type 0} (f : CheckFault) (r : Result A CheckFault) → IsErrAnd r (λ e. e ≡ f) → verdict_of r ≡ Err f
 told f r h = let p = err_from_is_err_and r h in ap verdict_of (p.1 ∙ ap Err p.2)
 
-module _ (p : Program) (j : Judged p) (at : ℕ) (d : TermCell) (l : at < length p.terms.now) (s : Scope) (h : accepted ≡ entering at (around p s) (node p at)) where
-  -- where the second part begins
-  second_place : at + 1 + size (node p (at + 1)) ≡ tree_end p.terms.now (at + 1)
-  second_place = ap (λ n. at + 1 + n) (size_reclaimed (type_at p.types.now) (term_at p.terms.now (at + 1)))
+-- the verdict and the variables of a term that was judged in a scope which is the other one again
+pub verdict_in : (n : Node) (s t : Scope) (v : Verdict) → t ≡ s → v ≡ verdict_from n.at (in_scope t) (term_of n) → v ≡ verdict_from n.at (in_scope s) (term_of n)
+verdict_in n s t v e h = h ∙ ap (λ s. verdict_from n.at (in_scope s) (term_of n)) e
 
-  depth_is : length (around p s) ≡ s.depth
-  depth_is = depth_of p.types.now s.binders s.depth
+pub uses_in : (n : Node) (s t : Scope) (u : Used) → t ≡ s → UsesOf u (depth t) (term_of n) → UsesOf u (depth s) (term_of n)
+uses_in n s t u e h = subst (λ s. UsesOf u (depth s) (term_of n)) e h
 
-  module _ (k : (get_or p.terms.now at d).op ≡ 108) where
-    lam_is : node p at ≡ lam (type_at p.types.now (get_or p.terms.now at d).claim) (node p (at + 1))
-    lam_is = (lam_here p.types.now p.terms.now j.tables at d l k).is
+-- A node n of two parts, the second below binders with the types cs, where the parts use what f and g say.
+pub record Twofold (n a b : Node) (bs cs : List Ty) (f g : Var → Bool) : Type 0 where
+  pub verdict : verdict_from n.at bs (term_of n) ≡ (verdict_from a.at bs (term_of a) then verdict_from b.at cs (term_of b) then apart n.at bs f g)
+  pub uses_is : (x : Var) → uses (term_of n) x ≡ (f x || g x)
 
-    pub lam_inside : at + 1 < length p.terms.now
-    lam_inside = (lam_here p.types.now p.terms.now j.tables at d l k).inside
+-- its verdict, where the first part is accepted
+module _ (n a b : Node) (bs cs : List Ty) (f g : Var → Bool) (t : Twofold n a b bs cs f g) where
+  pub second_refused : (e : CheckFault) → accepted ≡ verdict_from a.at bs (term_of a) → Err e ≡ verdict_from b.at cs (term_of b) → Err e ≡ verdict_from n.at bs (term_of n)
+  second_refused e p h = then_refused e _ (apart n.at bs f g) h ∙ sym (then_go (verdict_from a.at bs (term_of a)) _ p) ∙ sym t.verdict
 
-    pub lam_verdict : verdict_from at (around p s) (node p at)
-        ≡ (verdict_from (at + 1) (first (type_at p.types.now (get_or p.terms.now at d).claim) ∷ around p s) (node p (at + 1)) then uncaptured at (around p s) (marks (type_at p.types.now (get_or p.terms.now at d).claim)) (λ x. uses (node p (at + 1)) (under x)))
-    lam_verdict = goes_inside at (around p s) _ _ _ lam_is refl h
+  pub two_shows : (u l r : Used) (d : ℕ) → d ≤ 32 → Shows l d f → Shows r d g → ((k : ℕ) → k < 32 → has u k ≡ (has l k || has r k)) → UsesOf u d (term_of n)
+  two_shows u l r d w p q e = shows_either u l r d f g (uses (term_of n)) w t.uses_is p q e
 
-    pub lam_uses : (x : Var) → uses (node p at) x ≡ uses (node p (at + 1)) (under x)
+  two_done : (v : Verdict) → accepted ≡ verdict_from a.at bs (term_of a) → accepted ≡ verdict_from b.at cs (term_of b) → v ≡ apart n.at bs f g → v ≡ verdict_from n.at bs (term_of n)
+  two_done v p q h = h ∙ sym (then_go (verdict_from b.at cs (term_of b)) (apart n.at bs f g) q) ∙ sym (then_go (verdict_from a.at bs (term_of a)) _ p) ∙ sym t.verdict
+
+-- its verdict, where both parts are accepted, by the sets of what they use
+pub two_left : (n a b : Node) (s x : Scope) (cs : List Ty) (f g : Var → Bool) (t : Twofold n a b (in_scope s) cs f g) (l r : Used) (v : Verdict) → x ≡ s
+    → Shows l (depth s) f → Shows r (depth s) g → accepted ≡ verdict_from a.at (in_scope s) (term_of a) → accepted ≡ verdict_from b.at cs (term_of b)
+    → v ≡ apart n.at (in_scope x) (used_below l (depth x)) (used_below r (depth x)) → v ≡ verdict_from n.at (in_scope s) (term_of n)
+two_left n a b s x cs f g t l r v k p q c d e =
+    two_done n a b (in_scope s) cs f g t v c d (e ∙ ap (λ s. apart n.at (in_scope s) (used_below l (depth s)) (used_below r (depth s))) k ∙ apart_shows s n.at l r f g p q)
+
+-- what both branches use together
+abbrev pub branch_uses : Node → Node → Var → Bool
+branch_uses b d x = uses (term_of b) x || uses (term_of d) x
+
+-- A condition and its two branches.
+pub record Threefold (n a b d : Node) (bs : List Ty) : Type 0 where
+  pub verdict : verdict_from n.at bs (term_of n) ≡ (verdict_from a.at bs (term_of a) then verdict_from b.at bs (term_of b) then verdict_from d.at bs (term_of d) then apart n.at bs (uses (term_of a)) (branch_uses b d))
+  pub uses_is : (x : Var) → uses (term_of n) x ≡ (uses (term_of a) x || branch_uses b d x)
+
+module _ (n a b d : Node) (bs : List Ty) (t : Threefold n a b d bs) where
+  leaving : Verdict
+  leaving = apart n.at bs (uses (term_of a)) (branch_uses b d)
+
+  pub else_branch_refused : (e : CheckFault) → accepted ≡ verdict_from a.at bs (term_of a) → accepted ≡ verdict_from b.at bs (term_of b) → Err e ≡ verdict_from d.at bs (term_of d) → Err e ≡ verdict_from n.at bs (term_of n)
+  else_branch_refused e p q h = then_refused e (verdict_from d.at bs (term_of d)) _ h ∙ sym (then_go (verdict_from b.at bs (term_of b)) _ q) ∙ sym (then_go (verdict_from a.at bs (term_of a)) _ p) ∙ sym t.verdict
+
+  pub branches_show : (u l r : Used) (e : ℕ) → e ≤ 32 → UsesOf l e (term_of b) → UsesOf r e (term_of d) → ((k : ℕ) → k < 32 → has u k ≡ (has l k || has r k)) → Shows u e (branch_uses b d)
+  branches_show u l r e w p q h = shows_either u l r e (uses (term_of b)) (uses (term_of d)) (branch_uses b d) w (λ x. refl) p q h
+
+  pub three_shows : (u l r : Used) (e : ℕ) → e ≤ 32 → UsesOf l e (term_of a) → Shows r e (branch_uses b d) → ((k : ℕ) → k < 32 → has u k ≡ (has l k || has r k)) → UsesOf u e (term_of n)
+  three_shows u l r e w p q h = shows_either u l r e (uses (term_of a)) (branch_uses b d) (uses (term_of n)) w t.uses_is p q h
+
+  three_done : (v : Verdict) → accepted ≡ verdict_from a.at bs (term_of a) → accepted ≡ verdict_from b.at bs (term_of b) → accepted ≡ verdict_from d.at bs (term_of d) → v ≡ apart n.at bs (uses (term_of a)) (branch_uses b d) → v ≡ verdict_from n.at bs (term_of n)
+  three_done v p q r h =
+      h ∙ sym (then_go (verdict_from d.at bs (term_of d)) _ r) ∙ sym (then_go (verdict_from b.at bs (term_of b)) _ q) ∙ sym (then_go (verdict_from a.at bs (term_of a)) _ p) ∙ sym t.verdict
+
+pub three_left : (n a b d : Node) (s x : Scope) (t : Threefold n a b d (in_scope s)) (l r : Used) (v : Verdict) → x ≡ s
+    → UsesOf l (depth s) (term_of a) → Shows r (depth s) (branch_uses b d)
+    → accepted ≡ verdict_from a.at (in_scope s) (term_of a) → accepted ≡ verdict_from b.at (in_scope s) (term_of b) → accepted ≡ verdict_from d.at (in_scope s) (term_of d)
+    → v ≡ apart n.at (in_scope x) (used_below l (depth x)) (used_below r (depth x)) → v ≡ verdict_from n.at (in_scope s) (term_of n)
+three_left n a b d s x t l r v k p q c e f h =
+    three_done n a b d (in_scope s) t v c e f (h ∙ ap (λ s. apart n.at (in_scope s) (used_below l (depth s)) (used_below r (depth s))) k ∙ apart_shows s n.at l r (uses (term_of a)) (branch_uses b d) p q)
+
+module _ (n : Node) (s : Scope) (h : accepted ≡ entering n.at (in_scope s) (term_of n)) where
+  entered_here : Entered (in_scope s) (term_of n)
+  entered_here = (entered n.at (in_scope s) (term_of n)).0 (sym h)
+
+  pub deep : depth s ≤ 32
+  deep = omega (arith, leb→le _ 32 entered_here.room, depth_is s)
+
+  -- l
+  module _ (k : (cell_of n).op ≡ 108) (m : Node) (p : PartOf n 0 m) where
+    lam_is : term_of n ≡ lam (claim_of (term_of n)) (term_of m)
+    lam_is = lam_here n k ∙ ap (lam (claim_of (term_of n))) (sym (part_term n 0 m p))
+
+    pub lam_verdict : verdict_from n.at (in_scope s) (term_of n)
+        ≡ (verdict_from m.at (first (claim_of (term_of n)) ∷ in_scope s) (term_of m) then uncaptured n.at (in_scope s) (marks (claim_of (term_of n))) (λ x. uses (term_of m) (under x)))
+    lam_verdict =
+        let c = claim_of (term_of n) in
+        goes_inside n.at (in_scope s) _ _ _ lam_is refl h
+        ∙ ap (λ q. verdict_from q (first c ∷ in_scope s) (term_of m) then uncaptured n.at (in_scope s) (marks c) (λ x. uses (term_of m) (under x))) (sym p.same_place)
+
+    pub lam_uses : (x : Var) → uses (term_of n) x ≡ uses (term_of m) (under x)
     lam_uses x = ap (λ m. uses m x) lam_is
 
-    lam_entered : Entered (around p s) (lam (type_at p.types.now (get_or p.terms.now at d).claim) (node p (at + 1)))
-    lam_entered = subst (Entered (around p s)) lam_is ((entered at (around p s) (node p at)).0 (sym h))
+  -- a function claims an arrow
+  pub not_no_arrow : (k : (cell_of n).op ≡ 108) (b : TypeAt) (x : ℕ × Core) → Apart b x → meant b ≡ claim_of (term_of n) → ((u v : TypeAt) → x.1 ≡ Arrow u v → ⊥) → ⊥
+  not_no_arrow k b x t e f =
+      let l = subst (Entered (in_scope s)) (lam_here n k) entered_here in
+      let c = claim_of (term_near n (n.at + 1)) in
+      both_ways _ (sym (function_none b x t f c ∙ ap (λ d. function_fits d c) e)) (T_true _ l.fits)
 
-    pub lam_room : s.depth + 1 ≤ 32
-    lam_room = omega (arith, leb→le (length (around p s) + 1) 32 lam_entered.room, depth_is)
+  -- the places and terms of two parts
+  module _ (a b : Node) (p : PartOf n 0 a) (q : PartOf n 1 b) where
+    second_place : n.at + 1 + size (term_near n (n.at + 1)) ≡ second_at n
+    second_place = ap (λ i. n.at + 1 + i) (size_reclaimed (type_at (types_of n)) (term_at (terms_of n) (n.at + 1)))
 
-    -- the arrow that is claimed
-    pub lam_parts : (x : Parts) → x ≡ parted p.types.now (get_or p.terms.now at d).claim → PartsStand p.types.now (type_at p.types.now (get_or p.terms.now at d).claim) x
-    lam_parts x e =
-        let c = type_at p.types.now (get_or p.terms.now at d).claim in
-        let q = (same_exact (core c) (arrow (first c) (claim_of (node p (at + 1))))).0 lam_entered.fits in
-        parts_stand p.types.now (get_or p.terms.now at d).claim x (claim_placed p.types.now p.terms.now j.tables at d l) e (inl (ap (λ (x : Parts). x.kind) e ∙ ap kind_of q))
+    moved : {A : Type 0} (f : ℕ → ℕ → Term Ty → Term Ty → A) → f (n.at + 1) (n.at + 1 + size (term_near n (n.at + 1))) (term_near n (n.at + 1)) (term_near n (second_at n)) ≡ f a.at b.at (term_of a) (term_of b)
+    moved f =
+        ap (λ i. f (n.at + 1) i (term_near n (n.at + 1)) (term_near n (second_at n))) second_place
+        ∙ ap₂ (λ i j. f i j (term_near n (n.at + 1)) (term_near n (second_at n))) (sym p.same_place) (sym q.same_place)
+        ∙ ap₂ (f a.at b.at) (sym (part_term n 0 a p)) (sym (part_term n 1 b q))
 
-    pub lam_bindable : (x : Parts) (b : Marked) → x ≡ parted p.types.now (get_or p.terms.now at d).claim → b ≡ bare x.first → Bindable p.types.now s b None
-    lam_bindable x b e f = record {
-      deep = lam_room;
-      outer_placed = subst (Placed p.types.now) (sym f) ((lam_parts x e).placed_first 0 (omega arith));
-      inner_placed = tt;
+    -- a and p
+    pub two_parts : ((cell_of n).op ≡ 97) ⊎ ((cell_of n).op ≡ 112) → Twofold n a b (in_scope s) (in_scope s) (uses (term_of a)) (uses (term_of b))
+    two_parts (inl k) = record {
+      verdict = goes_inside n.at (in_scope s) _ _ _ (app_here n k) refl h ∙ moved (λ i j x y. verdict_from i (in_scope s) x then verdict_from j (in_scope s) y then apart n.at (in_scope s) (uses x) (uses y));
+      uses_is = λ v. ap (λ m. uses m v) (app_here n k) ∙ moved (λ i j x y. uses x v || uses y v);
+    }
+    two_parts (inr k) = record {
+      verdict = goes_inside n.at (in_scope s) _ _ _ (pair_here n k) refl h ∙ moved (λ i j x y. verdict_from i (in_scope s) x then verdict_from j (in_scope s) y then apart n.at (in_scope s) (uses x) (uses y));
+      uses_is = λ v. ap (λ m. uses m v) (pair_here n k) ∙ moved (λ i j x y. uses x v || uses y v);
     }
 
-    pub lam_binders : (x : Parts) (b : Marked) → x ≡ parted p.types.now (get_or p.terms.now at d).claim → b ≡ bare x.first
-        → with_binders p.types.now b None (around p s) ≡ (first (type_at p.types.now (get_or p.terms.now at d).claim) ∷ around p s)
-    lam_binders x b e f = ap (λ a. a ∷ around p s) (ap (meant p.types.now) f ∙ (lam_parts x e).first_is)
-
-  -- a and p
-  two_from : (join : Ty → Term Ty → Term Ty → Term Ty) (c : ℕ) → Two p.types.now p.terms.now at c join
-      → verdict_from at (around p s) (node p at) ≡ (verdict_from (at + 1) (around p s) (node p (at + 1)) then verdict_from (at + 1 + size (node p (at + 1))) (around p s) (node p (tree_end p.terms.now (at + 1))) then apart at (around p s) (uses (node p (at + 1))) (uses (node p (tree_end p.terms.now (at + 1)))))
-      → ((x : Var) → uses (node p at) x ≡ (uses (node p (at + 1)) x || uses (node p (tree_end p.terms.now (at + 1))) x))
-      → Twofold p at (around p s) (around p s) (uses (node p (at + 1))) (uses (node p (tree_end p.terms.now (at + 1))))
-  two_from join c w v u = record {
-    inside = w.inside;
-    inside_second = w.inside_second;
-    verdict = v ∙ ap (λ q. verdict_from (at + 1) (around p s) (node p (at + 1)) then verdict_from q (around p s) (node p (tree_end p.terms.now (at + 1))) then apart at (around p s) (uses (node p (at + 1))) (uses (node p (tree_end p.terms.now (at + 1))))) second_place;
-    uses_is = u;
-  }
-
-  pub two_parts : ((get_or p.terms.now at d).op ≡ 97) ⊎ ((get_or p.terms.now at d).op ≡ 112) → Twofold p at (around p s) (around p s) (uses (node p (at + 1))) (uses (node p (tree_end p.terms.now (at + 1))))
-  two_parts (inl k) =
-      let w = app_here p.types.now p.terms.now j.tables at d l k in
-      two_from app _ w (goes_inside at (around p s) _ _ _ w.is refl h) (λ x. ap (λ m. uses m x) w.is)
-  two_parts (inr k) =
-      let w = pair_here p.types.now p.terms.now j.tables at d l k in
-      two_from pair _ w (goes_inside at (around p s) _ _ _ w.is refl h) (λ x. ap (λ m. uses m x) w.is)
-
-  -- d
-  module _ (k : (get_or p.terms.now at d).op ≡ 100) where
-    let_is : Two p.types.now p.terms.now at (get_or p.terms.now at d).claim let_pair
-    let_is = let_here p.types.now p.terms.now j.tables at d l k
-
-    pub let_inside : at + 1 < length p.terms.now
-    let_inside = let_is.inside
-
-    pub let_parts : Twofold p at (around p s) (right_of (claim_of (node p (at + 1))) ∷ left_of (claim_of (node p (at + 1))) ∷ around p s) (uses (node p (at + 1))) (λ x. uses (node p (tree_end p.terms.now (at + 1))) (under (under x)))
-    let_parts =
-        let t = claim_of (node p (at + 1)) in
-        let n = node p (tree_end p.terms.now (at + 1)) in
-        record {
-          inside = let_is.inside;
-          inside_second = let_is.inside_second;
-          verdict = goes_inside at (around p s) _ _ _ let_is.is refl h ∙ ap (λ q. verdict_from (at + 1) (around p s) (node p (at + 1)) then verdict_from q (right_of t ∷ left_of t ∷ around p s) n then apart at (around p s) (uses (node p (at + 1))) (λ x. uses n (under (under x)))) second_place;
-          uses_is = λ x. ap (λ m. uses m x) let_is.is;
-        }
-
-    let_entered : Entered (around p s) (let_pair (type_at p.types.now (get_or p.terms.now at d).claim) (node p (at + 1)) (node p (tree_end p.terms.now (at + 1))))
-    let_entered = subst (Entered (around p s)) let_is.is ((entered at (around p s) (node p at)).0 (sym h))
-
-    let_room : s.depth + 2 ≤ 32
-    let_room = omega (arith, leb→le (length (around p s) + 2) 32 let_entered.room, depth_is)
-
-    -- the pair that is claimed
-    pair_parts : (x : Parts) → x ≡ parted p.types.now (claim_of (term_at p.terms.now (at + 1))) → PartsStand p.types.now (claim_of (node p (at + 1))) x
-    pair_parts x e =
-        let t = claim_of (node p (at + 1)) in
-        let c = claim_of (term_at p.terms.now (at + 1)) in
-        let z = claim_reclaimed (type_at p.types.now) (term_at p.terms.now (at + 1)) in
-        let q = (same_exact (core t) (tensor (first t) (second t))).0 ((T_and _ _).0 let_entered.fits).0 in
-        subst (λ t. PartsStand p.types.now t x) (sym z) (parts_stand p.types.now c x (claim_stands p j (at + 1) d let_inside) e (inr (ap (λ (x : Parts). x.kind) e ∙ ap (λ t. kind_of (core t)) (sym z) ∙ ap kind_of q)))
-
-    pub let_bindable : (t : Scope) (x : Parts) (a b : Marked) → Kept s t → x ≡ parted p.types.now (claim_of (term_at p.terms.now (at + 1))) → a ≡ record { marks = x.marks; place = x.first } → b ≡ record { marks = x.marks; place = x.second } → Bindable p.types.now t a (Some b)
-    let_bindable t x a b kept e f g =
-        let ps = pair_parts x e in
-        record {
-          deep = omega (arith, let_room, kept.same_depth);
-          outer_placed = subst (Placed p.types.now) (sym f) (ps.placed_first x.marks ps.few_marks);
-          inner_placed = subst (Placed p.types.now) (sym g) (ps.placed_second x.marks ps.few_marks);
-        }
-
-    pub let_binders : (t : Scope) (x : Parts) (a b : Marked) → Kept s t → x ≡ parted p.types.now (claim_of (term_at p.terms.now (at + 1))) → a ≡ record { marks = x.marks; place = x.first } → b ≡ record { marks = x.marks; place = x.second }
-        → with_binders p.types.now a (Some b) (around p t) ≡ (right_of (claim_of (node p (at + 1))) ∷ left_of (claim_of (node p (at + 1))) ∷ around p s)
-    let_binders t x a b kept e f g =
-        let ps = pair_parts x e in
-        let y = ap (meant p.types.now) f ∙ ap₂ bangs ps.count ps.first_is in
-        let z = ap (meant p.types.now) g ∙ ap₂ bangs ps.count ps.second_is in
-        ap₂ (λ b bs. b ∷ bs) z (ap₂ (λ a bs. a ∷ bs) y (scope_kept p.types.now s t kept))
-
-  -- i
-  pub if_parts : (get_or p.terms.now at d).op ≡ 105 → Threefold p at (around p s)
-  if_parts k =
-      let bs = around p s in
-      let w = if_here p.types.now p.terms.now j.tables at d l k in
-      let q = tree_end p.terms.now (at + 1) in
-      let r = tree_end p.terms.now q in
-      let e : at + 1 + size (node p (at + 1)) + size (node p q) ≡ r = ap₂ (λ i n. i + n) second_place (size_reclaimed (type_at p.types.now) (term_at p.terms.now q)) in
-      record {
-        inside = w.inside;
-        inside_second = w.inside_second;
-        inside_third = w.inside_third;
-        verdict = goes_inside at bs _ _ _ w.is refl h
-            ∙ ap₂ (λ i k. verdict_from (at + 1) bs (node p (at + 1)) then verdict_from i bs (node p q) then verdict_from k bs (node p r) then apart at bs (uses (node p (at + 1))) (λ x. uses (node p q) x || uses (node p r) x)) second_place e;
-        uses_is = λ x. ap (λ m. uses m x) w.is;
+    -- d
+    module _ (k : (cell_of n).op ≡ 100) where
+      pub let_parts : Twofold n a b (in_scope s) (right_of (claim_of (term_of a)) ∷ left_of (claim_of (term_of a)) ∷ in_scope s) (uses (term_of a)) (λ x. uses (term_of b) (under (under x)))
+      let_parts = record {
+        verdict = goes_inside n.at (in_scope s) _ _ _ (let_here n k) refl h
+            ∙ moved (λ i j x y. verdict_from i (in_scope s) x then verdict_from j (right_of (claim_of x) ∷ left_of (claim_of x) ∷ in_scope s) y then apart n.at (in_scope s) (uses x) (λ v. uses y (under (under v))));
+        uses_is = λ v. ap (λ m. uses m v) (let_here n k) ∙ moved (λ i j x y. uses x v || uses y (under (under v)));
       }
 
-  -- v
-  module _ (k : (get_or p.terms.now at d).op ≡ 118) where
-    var_is : node p at ≡ var (type_at p.types.now (get_or p.terms.now at d).claim) (bound (get_or p.terms.now at d).argument)
-    var_is = var_here p.types.now p.terms.now j.tables at d l k
+  -- the pair that is given claims a pair
+  pub not_no_pair : (k : (cell_of n).op ≡ 100) (a : Node) → PartOf n 0 a → (b : TypeAt) (x : ℕ × Core) → Apart b x → meant b ≡ claim_of (term_of a) → ((u v : TypeAt) → x.1 ≡ Pair u v → ⊥) → ⊥
+  not_no_pair k a p b x t e f =
+      let l = subst (Entered (in_scope s)) (let_here n k) entered_here in
+      let c = claim_of (term_of n) in
+      let y = claim_of (term_near n (second_at n)) in
+      both_ways _ (sym (let_none b x t f c y ∙ ap (λ d. let_fits c d y) (e ∙ ap claim_of (part_term n 0 a p)))) (T_true _ l.fits)
 
-    pub var_bound : (get_or p.terms.now at d).argument < s.depth
+  -- i
+  module _ (a b : Node) (p : PartOf n 0 a) (q : PartOf n 1 b) (k : (cell_of n).op ≡ 105) where
+    -- what is tested after the second part
+    abbrev last_tests : Verdict
+    last_tests = verdict_from (b.at + size (term_of b)) (in_scope s) (term_near n (third_at n)) then apart n.at (in_scope s) (uses (term_of a)) (λ v. uses (term_of b) v || uses (term_near n (third_at n)) v)
+
+    branching : verdict_from n.at (in_scope s) (term_of n) ≡ (verdict_from a.at (in_scope s) (term_of a) then verdict_from b.at (in_scope s) (term_of b) then last_tests)
+    branching =
+        goes_inside n.at (in_scope s) _ _ _ (if_here n k) refl h
+        ∙ moved a b p q (λ i j x y. verdict_from i (in_scope s) x then verdict_from j (in_scope s) y then verdict_from (j + size y) (in_scope s) (term_near n (third_at n)) then apart n.at (in_scope s) (uses x) (λ v. uses y v || uses (term_near n (third_at n)) v))
+
+    pub then_branch_refused : (e : CheckFault) → accepted ≡ verdict_from a.at (in_scope s) (term_of a) → Err e ≡ verdict_from b.at (in_scope s) (term_of b) → Err e ≡ verdict_from n.at (in_scope s) (term_of n)
+    then_branch_refused e x y = then_refused e (verdict_from b.at (in_scope s) (term_of b)) last_tests y ∙ sym (then_go (verdict_from a.at (in_scope s) (term_of a)) _ x) ∙ sym branching
+
+    pub if_parts : (d : Node) → PartOf n 2 d → Threefold n a b d (in_scope s)
+    if_parts d r =
+        let e : b.at + size (term_of b) ≡ d.at = ap₂ (λ i m. i + size m) q.same_place (part_term n 1 b q) ∙ ap (λ i. second_at n + i) (size_reclaimed (type_at (types_of n)) (term_at (terms_of n) (second_at n))) ∙ sym r.same_place in
+        let z = sym (part_term n 2 d r) in
+        record {
+          verdict = branching ∙ ap₂ (λ i m. verdict_from a.at (in_scope s) (term_of a) then verdict_from b.at (in_scope s) (term_of b) then verdict_from i (in_scope s) m then apart n.at (in_scope s) (uses (term_of a)) (λ v. uses (term_of b) v || uses m v)) e z;
+          uses_is = λ v. ap (λ m. uses m v) (if_here n k) ∙ moved a b p q (λ i j x y. uses x v || (uses y v || uses (term_near n (third_at n)) v)) ∙ ap (λ m. uses (term_of a) v || (uses (term_of b) v || uses m v)) z;
+        }
+
+  -- v
+  module _ (k : (cell_of n).op ≡ 118) where
+    pub var_bound : (cell_of n).argument < depth s
     var_bound =
-        let e = subst (Entered (around p s)) var_is ((entered at (around p s) (node p at)).0 (sym h)) in
-        omega (arith, has_place (around p s) (get_or p.terms.now at d).argument e.has_binder, depth_is)
+        let e = subst (Entered (in_scope s)) (var_here n k) entered_here in
+        omega (arith, has_place (in_scope s) (cell_of n).argument e.has_binder, depth_is s)
       where
         has_place : (bs : List Ty) (i : ℕ) → T (is_some (slice_get bs i)) → i < length bs
         has_place [] i t = absurd t
         has_place (b ∷ bs) zero t = omega arith
         has_place (b ∷ bs) (suc i) t = let r = has_place bs i t in omega arith
 
-    pub var_shows : (u : Used) → s.depth ≤ 32 → u.levels ≡ set (replicate 32 false) (s.depth - 1 - (get_or p.terms.now at d).argument) true → UsesOf u s.depth (node p at)
-    var_shows u w e =
-        let x = (get_or p.terms.now at d).argument in
-        shows_only u s.depth x (uses (node p at)) w var_bound e (ap (λ m. uses m (bound x)) var_is ∙ eq-eqb x x refl) (λ i n. ap (λ m. uses m (bound i)) var_is ∙ ne_eqb i x n)
+    pub var_shows : (u : Used) → u.levels ≡ set (replicate 32 false) (depth s - 1 - (cell_of n).argument) true → UsesOf u (depth s) (term_of n)
+    var_shows u e =
+        let x = (cell_of n).argument in
+        shows_only u (depth s) x (uses (term_of n)) deep var_bound e (ap (λ m. uses m (bound x)) (var_here n k) ∙ eq-eqb x x refl) (λ i l. ap (λ m. uses m (bound i)) (var_here n k) ∙ ne_eqb i x l)
+
+-- the verdict on the term at the first place, under no binder
+pub whole_verdict : (types : List TypeCell) (terms : List TermCell) (p : Program) (n : Node) (s : Scope) (v : Verdict) → p.types.now ≡ types → p.terms.now ≡ terms → n.program.now ≡ p → n.at ≡ 0 → s.binders.items ≡ []
+    → v ≡ verdict_from n.at (in_scope s) (term_of n) → v ≡ verdict (meaning types terms 0)
+whole_verdict types terms p n s v t u e f g h =
+    h ∙ ap (λ bs. verdict_from n.at (reverse (map meant bs)) (term_of n)) g
+    ∙ ap₂ (λ types terms. verdict_from n.at [] (meaning types terms n.at)) (ap (λ (p : Program). p.types.now) e ∙ t) (ap (λ (p : Program). p.terms.now) e ∙ u)
+    ∙ ap (λ k. verdict_from k [] (meaning types terms k)) f

@@ -13,7 +13,7 @@ use Rattle.calculus.specs.Cells.{placed_cells}
 use Rattle.calculus.specs.Reading.{every}
 use Rattle.calculus.specs.Terms.{bit_of, meas, new, gate, bound, held, Term, var, const, star, lam, app, pair, if_then_else, let_pair}
 use Rattle.calculus.proofs.Reading.{T_true, both}
-use Rattle.checker.specs.Judging.{Tested}
+use Rattle.checker.specs.Tested.{Tested}
 use Rattle.checker.specs.Tables.{known_kind, storable, claim_in, one_tree, tables_tested}
 use Rattle.verdict.specs.Faults.{Verdict, accepted, none_at}
 use Rattle.verdict.specs.declared.faults.CheckFault.{CheckFault}

@@ -5,4 +5,5 @@ pub mod Meaning
 pub mod Rules
 pub mod Scoping
 pub mod Tables
+pub mod Tested
 pub mod Worked

@@ -1,16 +1,14 @@
 -- The tests of whole tables, types before terms, each with the first cell at fault.
-use Rattle.std.specs.Prelude.{ℕ, Bool, not, ◌&&◌, List, length, is_some, Some, None, Ok, Err, Option, ◌==◌, nat_le, nat_lt}
+use Rattle.std.specs.Prelude.{ℕ, Bool, not, ◌&&◌, List, length, Some, None, Ok, Err, Option, ◌==◌, nat_le, nat_lt}
 use Rattle.trees.specs.Failing.{first_failing}
 use Rattle.trees.specs.Reach.{ends}
 use Rattle.trees.specs.Whole.{whole}
-use Rattle.calculus.specs.Letters.{allowed, arity, kind_arity, kind_parts_of}
+use Rattle.calculus.specs.Letters.{allowed, arity, kind_arity}
+pub use Rattle.calculus.specs.Letters.{known_kind}
 use Rattle.calculus.specs.declared.cells.TypeCell.{TypeCell}
 use Rattle.calculus.specs.declared.cells.TermCell.{TermCell}
 use Rattle.verdict.specs.Faults.{Verdict, must, none_at}
 use Rattle.verdict.specs.declared.faults.CheckFault.TheVariants.{TooManyCells, BadCell, NotWhole, ClaimOutside}
-
-abbrev pub known_kind : TypeCell → Bool
-known_kind c = is_some (kind_parts_of c.kind)
 
 -- a cell that may stand in a program: q, the name of a qubit, may not
 abbrev pub storable : TermCell → Bool

@@ -1,30 +1,47 @@
 //! The check of a whole program, and programs that passed it.
 
-ghost use Rattle.std.specs.Prelude.{◌≡◌, true, OnOk};
+ghost use Rattle.std.specs.Prelude.{◌≡◌, true, IfOk};
 ghost use Rattle.checker.specs.Accepting.{CheckingIsExact, accepts, program_verdict};
+ghost use Rattle.checker.specs.Judging.{verdict_of};
 ghost use Rattle.checker.specs.Worked.{WorkedPrograms};
 
-use crate::judging::judge;
-use crate::program::Program;
-use crate::scope::Scope;
+use crate::judging::judge_term;
 use crate::tables::test_tables;
-use calculus::{MOST_BINDERS, TermCell, TypeCell};
-use subtyping::plain;
+use calculus::{TermCell, TypeCell};
 use verdict::CheckFault;
 
-/// Checks both tables as wholes, and then the term and its claims against the typing rules.
-pub fn check<'a>(types: &'a [TypeCell], terms: &'a [TermCell]) -> Result<(), CheckFault>
-    ensures verdict { result ≡ program_verdict types.now terms.now }
-    ensures passed { OnOk result (accepts types.now terms.now ≡ true) }
+/// A program that passed its check: both tables, lent as long as the acceptance is in use.
+#[derive(Drop)]
+pub struct Accepted<'a> {
+    types: &'a [TypeCell],
+    terms: &'a [TermCell],
+    ghost checked: { accepts types.now terms.now ≡ true },
+}
+
+impl<'a> Accepted<'a> {
+    /// The type table.
+    pub fn types(&self) -> &'a [TypeCell]
+        ensures { result.now ≡ self.now.types.now }
+    {
+        self.types
+    }
+
+    /// The term table.
+    pub fn terms(&self) -> &'a [TermCell]
+        ensures { result.now ≡ self.now.terms.now }
+    {
+        self.terms
+    }
+}
+
+/// Checks both tables as wholes, and then the term and its claims against the typing rules; an accepted program is lent its tables.
+pub fn check<'a>(types: &'a [TypeCell], terms: &'a [TermCell]) -> Result<Accepted<'a>, CheckFault>
+    ensures verdict { verdict_of result ≡ program_verdict types.now terms.now }
+    ensures tables { IfOk result (λ p. (p.types.now ≡ types.now) × (p.terms.now ≡ terms.now)) }
 {
     test_tables(types, terms)?;
-    let program = Program::new(types, terms);
-    let mut scope = Scope {
-        binders: [plain(0); MOST_BINDERS],
-        depth: 0,
-    };
-    judge(&program, 0, &mut scope)?;
-    Ok(())
+    judge_term(types, terms)?;
+    Ok(Accepted { types, terms })
 }
 
 /// Two tables are accepted just where they store a term that has a derivation with its claims, within the limits.
@@ -39,36 +56,4 @@ pub fn worked_programs_are_judged() -> u8
     ensures { WorkedPrograms }
 {
     0
-}
-
-/// A program that was checked: both tables, lent as long as the acceptance is in use.
-#[derive(Drop)]
-pub struct Accepted<'a> {
-    types: &'a [TypeCell],
-    terms: &'a [TermCell],
-    ghost checked: { accepts types.now terms.now ≡ true },
-}
-
-impl<'a> Accepted<'a> {
-    /// The tables, once `check` has passed them.
-    pub fn new(types: &'a [TypeCell], terms: &'a [TermCell]) -> Accepted<'a>
-        requires { accepts types.now terms.now ≡ true }
-        ensures { (result.types.now ≡ types.now) × (result.terms.now ≡ terms.now) }
-    {
-        Accepted { types, terms }
-    }
-
-    /// The type table.
-    pub fn types(&self) -> &'a [TypeCell]
-        ensures { result.now ≡ self.now.types.now }
-    {
-        self.types
-    }
-
-    /// The term table.
-    pub fn terms(&self) -> &'a [TermCell]
-        ensures { result.now ≡ self.now.terms.now }
-    {
-        self.terms
-    }
 }

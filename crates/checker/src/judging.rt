@@ -1,95 +1,104 @@
 //! The verdict on a term, in tree order.
 
 ghost use Rattle.std.specs.Prelude.{◌≡◌, ◌+◌, ◌<◌, ◌≤◌, length, IfOk};
-ghost use Rattle.checker.specs.Judging.{Bindable, Judged, around, binder_count, node, verdict_of, with_binders};
-ghost use Rattle.checker.specs.Scoping.{Kept, Scoped, UsesOf};
-ghost use Rattle.verdict.specs.Judging.{entering, verdict_from};
+ghost use Rattle.checker.specs.Judging.{term_of, verdict_of, with_binders};
+ghost use Rattle.checker.specs.Meaning.{meaning};
+ghost use Rattle.checker.specs.Scoping.{UsesOf, depth, in_scope};
+ghost use Rattle.checker.specs.Tested.{Tested};
+ghost use Rattle.verdict.specs.Judging.{entering, verdict, verdict_from};
 
 use crate::leaving::{apart, uncaptured};
-use crate::program::Program;
+use crate::program::{Node, Program};
 use crate::rules::claims_agree;
-use crate::scope::{Entered, Scope, bind, test_depth};
+use crate::scope::{Entered, Scope, test_depth};
 use crate::used::{Used, either, none, only};
-use subtyping::{Marked, plain, take_apart};
+use calculus::{TermCell, TypeCell};
+use subtyping::{Core, TypeAt};
 use verdict::CheckFault;
 
 // The tests of a cell before its parts: the binders in scope, then the claims.
-fn enter(program: &Program, at: usize, scope: &Scope) -> Result<(), CheckFault>
-    requires { (Judged program.now) × ((at < length program.now.terms.now) × Scoped program.now.types.now scope.now) }
-    ensures { result ≡ entering at (around program.now scope.now) (node program.now at) }
+fn enter(node: Node<'_>, scope: &Scope<'_>) -> Result<(), CheckFault>
+    ensures { result ≡ entering node.entry.at (in_scope scope.now) (term_of node.entry) }
 {
-    test_depth(program.terms[at], at, scope.depth)?;
-    if !claims_agree(program, at, scope) {
-        return Err(CheckFault::WrongClaim(at));
+    test_depth(node.cell(), node.at, scope.binders.len())?;
+    if !claims_agree(node, scope) {
+        return Err(CheckFault::WrongClaim(node.at));
     }
     Ok(())
 }
 
-// Judges the term at a place under one binder more, or two, which are left again on every way out.
+// Judges a term under more binders, the outermost first, which are left again on every way out.
 #[cycle(judge_judge_under)]
-fn judge_under(
-    program: &Program,
-    at: usize,
-    outer: Marked,
-    inner: Option<Marked>,
-    scope: &mut Scope,
+fn judge_under<'a>(
+    node: Node<'a>,
+    binders: &[TypeAt<'a>],
+    scope: &mut Scope<'a>,
 ) -> Result<Used, CheckFault>
-    requires { (Judged program.now) × ((at < length program.now.terms.now) × (Scoped program.now.types.now scope.old × Bindable program.now.types.now scope.old outer inner)) }
-    ensures verdict { verdict_of result ≡ verdict_from at (with_binders program.now.types.now outer inner (around program.now scope.old)) (node program.now at) }
-    ensures used { IfOk result (λ u. UsesOf u (scope.old.depth + binder_count inner) (node program.now at)) }
-    ensures kept { Kept scope.old scope.new }
+    requires { depth scope.old + length binders.now ≤ 32 }
+    ensures verdict { verdict_of result ≡ verdict_from node.entry.at (with_binders binders.now (in_scope scope.old)) (term_of node.entry) }
+    ensures used { IfOk result (λ u. UsesOf u (depth scope.old + length binders.now) (term_of node.entry)) }
+    ensures kept { scope.new ≡ scope.old }
 {
-    let before = scope.depth;
+    let before = scope.binders.len();
     let entered = Entered { scope, before };
-    bind(&mut *entered.scope, outer);
-    if let Some(binder) = inner {
-        bind(&mut *entered.scope, binder);
-    }
-    judge(program, at, &mut *entered.scope)
+    let _ = entered.scope.binders.try_extend_from_slice(binders);
+    judge(node, &mut *entered.scope)
 }
 
-/// The binders that the term at a place uses, or its first fault: of a cell, then of its parts in order, then on leaving it.
+/// The binders that a term uses, or its first fault: of a cell, then of its parts in order, then on leaving it.
 #[cycle(judge_judge_under)]
-pub fn judge(program: &Program, at: usize, scope: &mut Scope) -> Result<Used, CheckFault>
-    requires { (Judged program.now) × ((at < length program.now.terms.now) × Scoped program.now.types.now scope.old) }
-    ensures verdict { verdict_of result ≡ verdict_from at (around program.now scope.old) (node program.now at) }
-    ensures used { IfOk result (λ u. UsesOf u scope.old.depth (node program.now at)) }
-    ensures kept { Kept scope.old scope.new }
+pub fn judge<'a>(node: Node<'a>, scope: &mut Scope<'a>) -> Result<Used, CheckFault>
+    ensures verdict { verdict_of result ≡ verdict_from node.entry.at (in_scope scope.old) (term_of node.entry) }
+    ensures used { IfOk result (λ u. UsesOf u (depth scope.old) (term_of node.entry)) }
+    ensures kept { scope.new ≡ scope.old }
 {
-    enter(program, at, scope)?;
-    let types = program.types;
-    let cell = program.terms[at];
+    enter(node, scope)?;
+    let cell = node.cell();
     match cell.op {
-        'v' => Ok(only(scope.depth - 1 - cell.argument as usize)),
+        'v' => Ok(only(scope.binders.len() - 1 - cell.argument as usize)),
         'l' => {
-            let arrow = take_apart(types, cell.claim as usize);
-            let used = judge_under(program, at + 1, plain(arrow.first), None, scope)?;
-            uncaptured(types, scope, used, arrow.marks, at)
+            let (marks, core) = node.claim().take_apart();
+            let Core::Arrow(binder, _) = core else {
+                unreachable!()
+            };
+            let used = judge_under(node.part(0), &[binder], scope)?;
+            uncaptured(scope, used, marks, node.at)
         }
         'a' | 'p' => {
-            let left = judge(program, at + 1, scope)?;
-            let right = judge(program, program.past(at + 1), scope)?;
-            apart(types, scope, &left, &right, at)
+            let left = judge(node.part(0), scope)?;
+            let right = judge(node.part(1), scope)?;
+            apart(scope, &left, &right, node.at)
         }
         'd' => {
-            let pair = take_apart(types, program.claim(at + 1));
-            let given = judge(program, at + 1, scope)?;
-            let body = judge_under(
-                program,
-                program.past(at + 1),
-                pair.first_marked(),
-                Some(pair.second_marked()),
-                scope,
-            )?;
-            apart(types, scope, &given, &body, at)
+            let pair = node.part(0);
+            let (marks, core) = pair.claim().take_apart();
+            let Core::Pair(outer, inner) = core else {
+                unreachable!()
+            };
+            let given = judge(pair, scope)?;
+            let binders = [outer.marked(marks), inner.marked(marks)];
+            let body = judge_under(node.part(1), &binders, scope)?;
+            apart(scope, &given, &body, node.at)
         }
         'i' => {
-            let second = program.past(at + 1);
-            let condition = judge(program, at + 1, scope)?;
-            let then = judge(program, second, scope)?;
-            let other = judge(program, program.past(second), scope)?;
-            apart(types, scope, &condition, &either(&then, &other), at)
+            let condition = judge(node.part(0), scope)?;
+            let then = judge(node.part(1), scope)?;
+            let other = judge(node.part(2), scope)?;
+            apart(scope, &condition, &either(&then, &other), node.at)
         }
         _ => Ok(none()),
     }
+}
+
+/// The verdict on the whole term of tables that passed their tests.
+pub fn judge_term(types: &[TypeCell], terms: &[TermCell]) -> Result<(), CheckFault>
+    requires tested { Tested types.now terms.now }
+    requires begun { 0 < length terms.now }
+    ensures { result ≡ verdict (meaning types.now terms.now 0) }
+{
+    let program = Program::new(types, terms);
+    let term = Node::new(&program, 0);
+    let mut scope = Scope::new(term.claim());
+    judge(term, &mut scope)?;
+    Ok(())
 }

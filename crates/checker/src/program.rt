@@ -1,22 +1,86 @@
-//! A program as it is checked: both tables, and where each tree of the term ends.
+//! A program as it is checked: both tables, where each tree of the term ends, and the nodes of the term.
 
-ghost use Rattle.std.specs.Prelude.{◌≡◌, ◌+◌, ◌<◌, ◌≤◌, length, drop, slice_index_or};
+ghost use Rattle.std.specs.Prelude.{◌≡◌, ◌+◌, ◌<◌, ◌≤◌, length, drop};
 ghost use Rattle.calculus.specs.Letters.{arity};
-ghost use Rattle.calculus.specs.Reading.{TermsStand, term_at};
-ghost use Rattle.calculus.specs.Terms.{claim_of};
-ghost use Rattle.checker.specs.Ending.{EndsFrom, tree_end, trees_end};
-ghost use Rattle.checker.specs.Judging.{Judged, Tested};
+ghost use Rattle.calculus.specs.Reading.{TermsStand};
+ghost use Rattle.checker.specs.Ending.{EndsFrom, trees_end};
+ghost use Rattle.checker.specs.Tested.{Judged, Tested};
 ghost use Rattle.trees.specs.Whole.{height};
 
 use calculus::{MOST_TERM_CELLS, TermCell, TypeCell};
+use subtyping::TypeAt;
 use trees::Cell;
 
 /// Both tables of a program that passed their tests, and one past the tree at each place of the term.
 #[derive(Drop)]
 pub struct Program<'a> {
-    pub types: &'a [TypeCell],
-    pub terms: &'a [TermCell],
-    pub ends: [u16; MOST_TERM_CELLS],
+    types: &'a [TypeCell],
+    terms: &'a [TermCell],
+    ends: [u16; MOST_TERM_CELLS],
+    ghost judged: { Judged types.now terms.now ends },
+}
+
+impl<'a> Program<'a> {
+    /// The tables, with the ends of the term's trees.
+    pub fn new(types: &'a [TypeCell], terms: &'a [TermCell]) -> Program<'a>
+        requires { Tested types.now terms.now }
+        ensures { (result.types.now ≡ types.now) × (result.terms.now ≡ terms.now) }
+    {
+        Program {
+            types,
+            terms,
+            ends: tree_ends(terms),
+        }
+    }
+}
+
+/// The term at a place of a program.
+#[derive(Clone, Copy, Drop)]
+pub struct Node<'a> {
+    program: &'a Program<'a>,
+    pub at: usize,
+    ghost inside: { at < length program.now.terms.now },
+}
+
+impl<'a> Node<'a> {
+    ghost use Rattle.std.specs.Prelude.{◌≡◌, ◌<◌, length};
+    ghost use Rattle.calculus.specs.Letters.{arity};
+    ghost use Rattle.calculus.specs.Terms.{claim_of};
+    ghost use Rattle.checker.specs.Judging.{PartOf, cell_of, term_of};
+    ghost use Rattle.subtyping.specs.Meaning.{meant};
+
+    /// The term at a place.
+    pub fn new(program: &'a Program<'a>, at: usize) -> Node<'a>
+        requires { at < length program.now.terms.now }
+        ensures { (result.program.now ≡ program.now) × (result.at ≡ at) }
+    {
+        Node { program, at }
+    }
+
+    /// The cell that the term begins with.
+    pub fn cell(self) -> TermCell
+        ensures { result ≡ cell_of self.entry }
+    {
+        self.program.terms[self.at]
+    }
+
+    /// The type that the term claims.
+    pub fn claim(self) -> TypeAt<'a>
+        ensures claimed { meant result ≡ claim_of (term_of self.entry) }
+        ensures bare { result.marks ≡ 0 }
+    {
+        TypeAt::new(self.program.types, self.cell().claim as usize)
+    }
+
+    /// A part of the term, the parts counted from 0.
+    pub fn part(self, part: usize) -> Node<'a>
+        requires { part < arity (cell_of self) }
+        ensures { PartOf self.entry part result }
+    {
+        let program = self.program;
+        let at = past_trees(&program.ends, program.terms, self.at + 1, part);
+        Node::new(program, at)
+    }
 }
 
 // One past so many trees from `at` on, by the ends of the trees there.
@@ -43,44 +107,4 @@ fn tree_ends(terms: &[TermCell]) -> [u16; MOST_TERM_CELLS]
         ends[i] = end as u16;
     }
     ends
-}
-
-impl<'a> Program<'a> {
-    /// The tables, with the ends of the term's trees.
-    pub fn new(types: &'a [TypeCell], terms: &'a [TermCell]) -> Program<'a>
-        requires { Tested types.now terms.now }
-        ensures judged { Judged result }
-        ensures tables { (result.types.now ≡ types.now) × (result.terms.now ≡ terms.now) }
-    {
-        Program {
-            types,
-            terms,
-            ends: tree_ends(terms),
-        }
-    }
-
-    /// The claim of the cell at a place.
-    pub fn claim(&self, at: usize) -> usize
-        requires { (Judged self.now) × (at < length self.now.terms.now) }
-        ensures { result ≡ claim_of (term_at self.now.terms.now at) }
-    {
-        self.terms[at].claim as usize
-    }
-
-    /// One past the tree at a place.
-    pub fn past(&self, at: usize) -> usize
-        requires { (Judged self.now) × (at < length self.now.terms.now) }
-        ensures { result ≡ tree_end self.now.terms.now at }
-    {
-        self.ends[at] as usize
-    }
-
-    /// Where a part of the cell at a place begins, the parts counted from 0.
-    pub fn part(&self, at: usize, part: usize) -> usize
-        requires { (Judged self.now) × ((at < length self.now.terms.now) × (part < arity (slice_index_or self.now.terms.now at (record { op = 0; argument = 0; claim = 0 })))) }
-        ensures place { result ≡ trees_end self.now.terms.now (at + 1) part }
-        ensures within { result < length self.now.terms.now }
-    {
-        past_trees(&self.ends, self.terms, at + 1, part)
-    }
 }

@@ -1,49 +1,51 @@
 //! The record of binders in scope, and the guard that leaves them.
 
-ghost use Rattle.std.specs.Prelude.{◌≡◌, ◌+◌, ◌<◌, ◌≤◌, slice_set};
+ghost use Rattle.std.specs.Prelude.{◌≡◌, ◌≤◌, [], length, take};
 ghost use Rattle.calculus.specs.Stripping.{duplicable};
-ghost use Rattle.checker.specs.Scoping.{Scoped, binders_of, depth_tested, in_scope, used_below};
-ghost use Rattle.subtyping.specs.Placing.{Placed, meant};
+ghost use Rattle.checker.specs.Scoping.{binders_of, depth, depth_tested, in_scope, used_below};
+ghost use Rattle.subtyping.specs.Meaning.{meant};
 ghost use Rattle.verdict.specs.Sharing.{all_duplicable};
 
 use crate::used::Used;
-use calculus::{MOST_BINDERS, TermCell, TypeCell};
-use subtyping::Marked;
+use arrayvec::ArrayVec;
+use calculus::{MOST_BINDERS, TermCell};
+use subtyping::TypeAt;
 use verdict::CheckFault;
 
 /// The types of the binders in scope, the outermost first.
 #[derive(Drop)]
-pub struct Scope {
-    pub binders: [Marked; MOST_BINDERS],
-    pub depth: usize,
+pub struct Scope<'a> {
+    pub binders: ArrayVec<TypeAt<'a>, MOST_BINDERS, TypeAt<'a>>,
+}
+
+impl<'a> Scope<'a> {
+    /// No binder; the type fills the places that are not in use.
+    pub fn new(blank: TypeAt<'a>) -> Scope<'a>
+        ensures { result.binders.items ≡ [] }
+    {
+        Scope {
+            binders: ArrayVec::new_in(blank),
+        }
+    }
 }
 
 /// A scope that gets its depth back on every way out.
-pub struct Entered<'a> {
-    pub scope: &'a mut Scope,
+pub struct Entered<'s, 'a> {
+    pub scope: &'s mut Scope<'a>,
     pub before: usize,
 }
 
-impl Drop for Entered<'_> {
+impl Drop for Entered<'_, '_> {
     fn drop(self)
-        ensures { (self.exit.0.now.depth ≡ self.entry.before) × (self.exit.0.now.binders ≡ self.entry.scope.now.binders) }
+        ensures { self.exit.0.now.binders.items ≡ take self.entry.before self.entry.scope.now.binders.items }
     {
-        self.scope.depth = self.before;
+        let before = self.before;
+        self.scope.binders.truncate(before);
         let Entered {
             scope: _,
             before: _,
         } = self;
     }
-}
-
-/// One binder more.
-pub fn bind(scope: &mut Scope, binder: Marked)
-    requires { scope.old.depth < 32 }
-    ensures { (scope.new.depth ≡ scope.old.depth + 1) × (scope.new.binders ≡ slice_set scope.old.binders scope.old.depth binder) }
-{
-    let depth = scope.depth;
-    scope.binders[depth] = binder;
-    scope.depth = depth + 1;
 }
 
 // How many binders the letter of a cell puts in scope.
@@ -72,20 +74,18 @@ pub fn test_depth(cell: TermCell, at: usize, depth: usize) -> Result<(), CheckFa
 }
 
 // Whether the values of a type may be copied.
-fn is_duplicable(types: &[TypeCell], binder: Marked) -> bool
-    requires { Placed types.now binder }
-    ensures { result ≡ duplicable (meant types.now binder) }
+fn is_duplicable(binder: TypeAt<'_>) -> bool
+    ensures { result ≡ duplicable (meant binder.entry) }
 {
-    binder.marks > 0 || types[binder.place].kind == '!'
+    binder.kind() == '!'
 }
 
 /// Whether each binder in scope that is in the set has a duplicable type.
-pub fn is_clear(types: &[TypeCell], scope: &Scope, used: &Used) -> bool
-    requires { Scoped types.now scope.now }
-    ensures { result ≡ all_duplicable (in_scope types.now scope.now) (used_below used.now scope.now.depth) }
+pub fn is_clear(scope: &Scope<'_>, used: &Used) -> bool
+    ensures { result ≡ all_duplicable (in_scope scope.now) (used_below used.now (depth scope.now)) }
 {
-    for level in 0..scope.depth {
-        if used.levels[level] && !is_duplicable(types, scope.binders[level]) {
+    for (level, binder) in scope.binders.iter().enumerate() {
+        if used.levels[level] && !is_duplicable(*binder) {
             return false;
         }
     }

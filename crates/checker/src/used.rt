@@ -4,6 +4,7 @@ ghost use Rattle.std.specs.Prelude.{◌≡◌, ℕ, ◌<◌, true, false, ◌&&�
 ghost use Rattle.checker.specs.Scoping.{has};
 
 use calculus::MOST_BINDERS;
+use std::array::from_fn;
 
 /// Which levels are in the set.
 #[derive(Clone, Copy, Drop)]
@@ -25,29 +26,31 @@ pub fn only(level: usize) -> Used
     requires { level < 32 }
     ensures { result.levels ≡ slice_set (replicate 32 false) level true }
 {
-    let mut levels = [false; MOST_BINDERS];
-    levels[level] = true;
-    Used { levels }
+    let mut used = none();
+    used.levels[level] = true;
+    used
+}
+
+// The levels of two sets, joined one by one.
+fn joined<F: Fn(bool, bool) -> bool>(a: &Used, b: &Used, join: F) -> Used
+    requires { F.IsAlwaysCallable join }
+    ensures { (k : ℕ) → k < 32 → F.post join (has a.now k) (has b.now k) (has result k) }
+{
+    Used {
+        levels: from_fn(|level| join(a.levels[level], b.levels[level])),
+    }
 }
 
 /// The levels of one set or the other.
 pub fn either(a: &Used, b: &Used) -> Used
     ensures { (k : ℕ) → k < 32 → has result k ≡ (has a.now k || has b.now k) }
 {
-    let mut levels = [false; MOST_BINDERS];
-    for level in 0..MOST_BINDERS {
-        levels[level] = a.levels[level] | b.levels[level];
-    }
-    Used { levels }
+    joined(a, b, |in_a, in_b| in_a | in_b)
 }
 
 /// The levels of both sets.
 pub fn shared(a: &Used, b: &Used) -> Used
     ensures { (k : ℕ) → k < 32 → has result k ≡ (has a.now k && has b.now k) }
 {
-    let mut levels = [false; MOST_BINDERS];
-    for level in 0..MOST_BINDERS {
-        levels[level] = a.levels[level] & b.levels[level];
-    }
-    Used { levels }
+    joined(a, b, |in_a, in_b| in_a & in_b)
 }

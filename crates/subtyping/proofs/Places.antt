@@ -1,5 +1,5 @@
 -- What stands at the places of a whole table: the parts of a type, its letter, its marks and its end.
-use Rattle.std.proofs.Common.{◌≡◌, ℕ, zero, suc, ◌+◌, ◌<◌, ◌≤◌, List, [], ◌∷◌, ◌++◌, length, get_or, drop, sym, refl, ap, ◌∙◌, subst, arith}
+use Rattle.std.proofs.Common.{◌≡◌, ℕ, zero, suc, ◌+◌, ◌-◌, ◌<◌, ◌≤◌, ◌⊎◌, List, [], ◌∷◌, ◌++◌, length, get_or, drop, sym, refl, ap, ◌∙◌, subst, ap₂, inl, inr, add-zero, arith}
 use Rattle.std.proofs.lemmas.List.{append_assoc, length-append, length-drop, drop_more}
 use Rattle.calculus.specs.declared.cells.TypeCell.{TypeCell}
 use Rattle.calculus.specs.Cells.{type_cells}
@@ -8,9 +8,10 @@ use Rattle.calculus.specs.Stripping.{marks, core, first, second}
 use Rattle.calculus.specs.Types.{Ty, bit, qbit, unit, bang, arrow, tensor, bangs}
 use Rattle.calculus.proofs.Reading.{after}
 use Rattle.calculus.proofs.ReadTypes.{At, at_place, at_is}
-use Rattle.subtyping.specs.declared.relating.Marked.{Marked}
-use Rattle.subtyping.specs.Parting.{kind_of, stripped}
-use Rattle.subtyping.specs.Placing.{Placed, meant, type_end}
+use Rattle.subtyping.specs.declared.placed.TypeAt.{TypeAt}
+use Rattle.subtyping.specs.Letters.{kind_of}
+use Rattle.subtyping.specs.Meaning.{standing, meant, past, Bare, Stripped}
+use Rattle.subtyping.specs.Placing.{type_end}
 use Rattle.subtyping.proofs.Related.{arrow_by_kind, pair_by_kind, marked_by_kind}
 
 pub some_cells : (a : Ty) → 0 < length (type_cells a)
@@ -133,28 +134,63 @@ pub marks_bangs : (n : ℕ) (a : Ty) → marks (bangs n a) ≡ n + marks a
 marks_bangs zero a = omega arith
 marks_bangs (suc n) a = omega (arith, marks_bangs n a)
 
--- A type without its marks, where they are all counted.
-pub record Stripped (cs : List TypeCell) (a r : Marked) : Type 0 where
-  pub count : r.marks ≡ marks (meant cs a)
-  pub few : r.marks ≤ a.marks + 255
-  pub left_over : type_at cs r.place ≡ core (meant cs a)
-  pub on : a.place ≤ r.place
-  pub inside : r.place < length cs
-  pub ends : type_end cs r.place ≡ type_end cs a.place
+pub bangs_more : (n m : ℕ) (a : Ty) → bangs (n + m) a ≡ bangs m (bangs n a)
+bangs_more n zero a = ap (λ k. bangs k a) (add-zero n)
+bangs_more n (suc m) a = let e : n + suc m ≡ suc (n + m) = omega arith in ap (λ k. bangs k a) e ∙ ap bang (bangs_more n m a)
 
-pub strips : (cs : List TypeCell) (a r : Marked) → Placed cs a → r ≡ stripped cs a → Stripped cs a r
-strips cs a r h e =
-    let t = type_at cs a.place in
-    let at = at_core cs a.place t (at_place cs a.place h.stands h.within) in
-    let k = at_is cs (a.place + marks t) (core t) at in
-    let room = at_room cs (a.place + marks t) (core t) at in
-    let some = some_cells (core t) in
-    let few = h.few in
-    subst (Stripped cs a) (sym e) record {
-      count = sym (marks_bangs a.marks t);
-      few = omega arith;
-      left_over = k ∙ sym (core_bangs a.marks t);
-      on = omega arith;
-      inside = omega arith;
-      ends = ap (λ u. a.place + marks t + length (type_cells u)) k ∙ (omega (arith, core_length t));
+pub marked_kind : (n : ℕ) (a : Ty) → 0 < n → 33 ≡ kind_of (bangs n a)
+marked_kind zero a h = absurd (omega arith)
+marked_kind (suc n) a h = refl
+
+-- the cells of the table from the type on
+abbrev pub room : TypeAt → ℕ
+room a = length a.types.now - a.place
+
+-- A type of a table as it stands at a place.
+pub record Stands (cs : List TypeCell) (p : ℕ) (a : TypeAt) : Type 0 where
+  pub is : meant a ≡ type_at cs p
+  pub ends : past a ≡ type_end cs p
+  pub cells : room a ≡ length cs - p
+
+pub stands : (cs : List TypeCell) (p : ℕ) (a : TypeAt) → Bare cs p a → Stands cs p a
+stands cs p a h = record {
+  is = ap (λ n. bangs n (standing a)) h.no_marks ∙ ap₂ type_at h.same_table h.same_place;
+  ends = ap₂ type_end h.same_table h.same_place;
+  cells = omega (arith, ap length h.same_table, h.same_place);
+}
+
+-- A type without its marks, where they are all counted.
+pub record Strips (a : TypeAt) (n : ℕ) (r : TypeAt) : Type 0 where
+  pub count : n ≡ marks (meant a)
+  pub left_over : meant r ≡ core (meant a)
+  pub bare : standing r ≡ meant r
+  pub ends : past r ≡ past a
+  pub on : room r ≤ room a
+
+pub strips : (a : TypeAt) (x : ℕ × TypeAt) → Stripped a x → Strips a x.0 x.1
+strips a x h =
+    let cs = a.types.now in
+    let t = standing a in
+    let k = at_is cs (a.place + marks t) (core t) (at_core cs a.place t (at_place cs a.place a.placed.stands a.placed.within)) in
+    let s = stands cs (a.place + marks t) x.1 h.left_over in
+    record {
+      count = h.count ∙ sym (marks_bangs a.marks t);
+      left_over = s.is ∙ k ∙ sym (core_bangs a.marks t);
+      bare = sym (ap (λ n. bangs n (standing x.1)) h.left_over.no_marks);
+      ends = s.ends ∙ ap (λ u. a.place + marks t + length (type_cells u)) k ∙ (omega (arith, core_length t));
+      on = omega (arith, s.cells);
     }
+
+-- where the parts of an arrow or a pair stand
+module _ (a : TypeAt) (k : (kind_of (standing a) ≡ 62) ⊎ (kind_of (standing a) ≡ 42)) where
+  pub first_within : a.place + 1 < length a.types.now
+  first_within = elim k [
+    | inl e ↦ (arrow_here _ a.place a.placed.stands a.placed.within e).inside_first
+    | inr e ↦ (pair_here _ a.place a.placed.stands a.placed.within e).inside_first
+  ]
+
+  pub second_within : type_end a.types.now (a.place + 1) < length a.types.now
+  second_within = elim k [
+    | inl e ↦ (arrow_here _ a.place a.placed.stands a.placed.within e).inside_second
+    | inr e ↦ (pair_here _ a.place a.placed.stands a.placed.within e).inside_second
+  ]

@@ -1,12 +1,11 @@
 -- How far types reach: one past the cells that they are written as.
-use Rattle.std.proofs.Common.{◌≡◌, ℕ, suc, ◌+◌, ◌<◌, ◌≤◌, ◌⊎◌, List, [], ◌∷◌, ◌++◌, length, drop, Some, None, sym, refl, ap, ◌∙◌, ap₂, inl, inr, arith}
-use Rattle.std.proofs.lemmas.Bool.{cases_lt}
-use Rattle.std.proofs.lemmas.List.{append_assoc, length-append, at_drop_all}
+use Rattle.std.proofs.Common.{◌≡◌, ℕ, suc, ◌+◌, ◌<◌, List, [], ◌∷◌, ◌++◌, length, drop, Some, refl, ap, ◌∙◌, ap₂, arith}
+use Rattle.std.proofs.lemmas.List.{append_assoc, length-append}
 use Rattle.trees.specs.Reach.{ends}
 use Rattle.calculus.specs.declared.cells.TypeCell.{TypeCell}
 use Rattle.calculus.specs.Cells.{type_cells}
 use Rattle.calculus.specs.Letters.{kind_arity}
-use Rattle.calculus.specs.Reading.{top, types_of, type_at, TypesStand}
+use Rattle.calculus.specs.Reading.{type_at, TypesStand}
 use Rattle.calculus.specs.Types.{Ty, bit, qbit, unit, bang, arrow, tensor}
 use Rattle.calculus.proofs.ReadTypes.{at_place}
 use Rattle.subtyping.specs.Placing.{type_end}
@@ -43,22 +42,8 @@ passed (bang a) = one_passed record { kind = 33 } (type_cells a) refl (passed a)
 passed (arrow a b) = two_passed record { kind = 62 } (type_cells a) (type_cells b) refl (passed a) (passed b)
 passed (tensor a b) = two_passed record { kind = 42 } (type_cells a) (type_cells b) refl (passed a) (passed b)
 
--- a place of a whole table reaches its type's end, and a place past the table none
-reaches : (cs : List TypeCell) (p : ℕ) → TypesStand cs → p < length cs → ends kind_arity 1 (drop p cs) p ≡ Some (type_end cs p)
+-- a place of a whole table reaches its type's end
+pub reaches : (cs : List TypeCell) (p : ℕ) → TypesStand cs → p < length cs → ends kind_arity 1 (drop p cs) p ≡ Some (type_end cs p)
 reaches cs p h l =
     let at = at_place cs p h l in
     ap (λ xs. ends kind_arity 1 xs p) at.1 ∙ passed (type_at cs p) 0 at.0 p
-
-pub reached : (cs : List TypeCell) (p e : ℕ) → TypesStand cs → Some e ≡ ends kind_arity 1 (drop p cs) p → e ≡ type_end cs p
-reached cs p e h q = go (cases_lt p (length cs))
-  where
-    go : (p < length cs) ⊎ (length cs ≤ p) → e ≡ type_end cs p
-    go (inl l) = let r = reaches cs p h l in cc
-    go (inr l) = let r : Some e ≡ None = q ∙ at_drop_all (λ xs. ends kind_arity 1 xs p) cs p l in cc
-
-pub not_reached : (cs : List TypeCell) (p : ℕ) → TypesStand cs → None ≡ ends kind_arity 1 (drop p cs) p → p + 1 ≡ type_end cs p
-not_reached cs p h q = go (cases_lt p (length cs))
-  where
-    go : (p < length cs) ⊎ (length cs ≤ p) → p + 1 ≡ type_end cs p
-    go (inl l) = let r : None ≡ Some (type_end cs p) = q ∙ reaches cs p h l in cc
-    go (inr l) = sym (ap (λ t. p + length (type_cells t)) (at_drop_all (λ xs. top unit (types_of xs)) cs p l))

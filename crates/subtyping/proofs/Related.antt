@@ -4,21 +4,18 @@ use Rattle.std.proofs.lemmas.Bool.{eqb-true, eq-eqb}
 use Rattle.calculus.specs.Types.{Ty, bit, qbit, unit, bang, arrow, tensor, bangs, Sub, sub_bit, sub_qbit, sub_unit, sub_use, sub_keep, sub_tensor, sub_arrow}
 use Rattle.calculus.specs.Cells.{type_cells}
 use Rattle.calculus.specs.Stripping.{same, marks, core, first, second, marks_fit, agree}
+use Rattle.calculus.proofs.Reading.{T_true}
 use Rattle.calculus.proofs.Stripping.{same_exact, subtype_exact, under_marks, T_and}
 use Rattle.subtyping.specs.Relating.{related, marks_agree}
 use Rattle.subtyping.specs.declared.relating.Relation.{Relation}
 use Rattle.subtyping.specs.declared.relating.Relation.TheVariants.{Equal, Subtype}
-use Rattle.subtyping.specs.Parting.{kind_of}
+use Rattle.subtyping.specs.Letters.{kind_of}
 
 pub same_tests : (a b : Bool) → (T a → T b) → (T b → T a) → a ≡ b
 same_tests true true f g = refl
 same_tests true false f g = absurd (f tt)
 same_tests false true f g = absurd (g tt)
 same_tests false false f g = refl
-
-pub is_true : (b : Bool) → T b → b ≡ true
-is_true true h = refl
-is_true false h = absurd h
 
 pub is_false : (b : Bool) → (T b → ⊥) → b ≡ false
 is_false true h = absurd (h tt)
@@ -39,14 +36,6 @@ core_bare unit = refl
 core_bare (bang a) = core_bare a
 core_bare (arrow a b) = refl
 core_bare (tensor a b) = refl
-
-pub core_of_bare : (a : Ty) → marks a ≡ 0 → core a ≡ a
-core_of_bare bit e = refl
-core_of_bare qbit e = refl
-core_of_bare unit e = refl
-core_of_bare (bang a) e = absurd (omega arith)
-core_of_bare (arrow a b) e = refl
-core_of_bare (tensor a b) e = refl
 
 agree_left : (s : Bool) (a t : Ty) → agree s a t ≡ agree s (core a) t
 agree_left s bit t = refl
@@ -77,7 +66,7 @@ same_marked a b =
     same_tests _ _
     (λ h. let e = (same_exact a b).0 h in (T_and _ _).1 (subst T (sym (eq-eqb (marks a) (marks b) (ap marks e))) tt, (same_exact (core a) (core b)).1 (ap core e)))
     (λ h. let p = (T_and (eqb (marks a) (marks b)) (same (core a) (core b))).0 h in
-    (same_exact a b).1 (under_marks a ∙ ap (λ n. bangs n (core a)) (eqb-true (marks a) (marks b) (is_true _ p.0)) ∙ ap (bangs (marks b)) ((same_exact (core a) (core b)).0 p.1) ∙ sym (under_marks b)))
+    (same_exact a b).1 (under_marks a ∙ ap (λ n. bangs n (core a)) (eqb-true (marks a) (marks b) (T_true _ p.0)) ∙ ap (bangs (marks b)) ((same_exact (core a) (core b)).0 p.1) ∙ sym (under_marks b)))
 
 bare_fit : (n m : ℕ) (v : Bool) → m ≡ 0 → (marks_fit n m && v) ≡ v
 bare_fit n zero v e = refl
@@ -111,6 +100,9 @@ related_arrows r a b c d =
     (λ h. let p = from_arrows r a b c d ((related_exact r (arrow a b) (arrow c d)).0 h) in (T_and _ _).1 ((related_exact r c a).1 p.0, (related_exact r b d).1 p.1))
     (λ h. let p = (T_and (related r c a) (related r b d)).0 h in
     (related_exact r (arrow a b) (arrow c d)).1 (to_arrows r a b c d ((related_exact r c a).0 p.0) ((related_exact r b d).0 p.1)))
+
+pub same_arrows : (a b c d : Ty) → same (arrow a b) (arrow c d) ≡ same c a && same b d
+same_arrows a b c d = related_arrows Equal a b c d
 
 pub related_pairs : (r : Relation) (a b c d : Ty) → related r (tensor a b) (tensor c d) ≡ related r a c && related r b d
 related_pairs r a b c d =
@@ -176,16 +168,16 @@ unmarked (bang a) m e = omega arith
 unmarked (arrow a b) m e = omega arith
 unmarked (tensor a b) m e = omega arith
 
-abbrev leaf : ℕ → Ty
+abbrev pub leaf : ℕ → Ty
 leaf k = cond (eqb k 98) bit (cond (eqb k 113) qbit unit)
 
 abbrev pub Leaf : ℕ → Type 0
 Leaf k = (k ≡ 33 → ⊥) × (k ≡ 62 → ⊥) × (k ≡ 42 → ⊥)
 
-leaf_by_kind : (a : Ty) → Leaf (kind_of a) → (a ≡ leaf (kind_of a)) × (type_cells a ≡ record { kind = kind_of a } ∷ []) × ((r : Relation) → related r a a ≡ true)
-leaf_by_kind bit n = (refl, refl, λ r. is_true _ ((related_exact r bit bit).1 (elim r as (λ r. Related r bit bit) [ Equal ↦ refl | Subtype ↦ sub_bit ])))
-leaf_by_kind qbit n = (refl, refl, λ r. is_true _ ((related_exact r qbit qbit).1 (elim r as (λ r. Related r qbit qbit) [ Equal ↦ refl | Subtype ↦ sub_qbit ])))
-leaf_by_kind unit n = (refl, refl, λ r. is_true _ ((related_exact r unit unit).1 (elim r as (λ r. Related r unit unit) [ Equal ↦ refl | Subtype ↦ sub_unit ])))
+pub leaf_by_kind : (a : Ty) → Leaf (kind_of a) → (a ≡ leaf (kind_of a)) × (type_cells a ≡ record { kind = kind_of a } ∷ []) × ((r : Relation) → related r a a ≡ true)
+leaf_by_kind bit n = (refl, refl, λ r. T_true _ ((related_exact r bit bit).1 (elim r as (λ r. Related r bit bit) [ Equal ↦ refl | Subtype ↦ sub_bit ])))
+leaf_by_kind qbit n = (refl, refl, λ r. T_true _ ((related_exact r qbit qbit).1 (elim r as (λ r. Related r qbit qbit) [ Equal ↦ refl | Subtype ↦ sub_qbit ])))
+leaf_by_kind unit n = (refl, refl, λ r. T_true _ ((related_exact r unit unit).1 (elim r as (λ r. Related r unit unit) [ Equal ↦ refl | Subtype ↦ sub_unit ])))
 leaf_by_kind (bang a) n = absurd (n.0 refl)
 leaf_by_kind (arrow a b) n = absurd (n.1 refl)
 leaf_by_kind (tensor a b) n = absurd (n.2 refl)

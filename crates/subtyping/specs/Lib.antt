@@ -1,3 +1,5 @@
+pub mod Letters
+pub mod Meaning
 pub mod Parting
 pub mod Placing
 pub mod Relating

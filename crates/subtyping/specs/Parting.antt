@@ -1,31 +1,37 @@
--- Types taken apart where they stand: the letter, the leading marks, and the places of the two parts.
-use Rattle.std.specs.Prelude.{ℕ, ◌+◌, List}
+-- Types taken apart where they stand.
+use Rattle.std.specs.Prelude.{◌≡◌, ℕ, ◌+◌, ◌≤◌, List}
 use Rattle.calculus.specs.declared.cells.TypeCell.{TypeCell}
-use Rattle.calculus.specs.Reading.{type_at}
-use Rattle.calculus.specs.Stripping.{marks, core}
-use Rattle.calculus.specs.Types.{Ty, bit, qbit, unit, bang, arrow, tensor}
-use Rattle.subtyping.specs.declared.parting.Parts.{Parts}
-use Rattle.subtyping.specs.declared.relating.Marked.{Marked}
-use Rattle.subtyping.specs.Placing.{type_end}
+use Rattle.calculus.specs.Stripping.{marks}
+use Rattle.calculus.specs.Types.{Ty, bit, qbit, unit, arrow, tensor, bangs}
+use Rattle.subtyping.specs.Meaning.{meant, past, standing, Bare}
+use Rattle.subtyping.specs.declared.parting.Core.{Core}
+use Rattle.subtyping.specs.declared.parting.Core.TheVariants.{Bit, Qubit, Unit as Empty, Arrow, Pair}
+use Rattle.subtyping.specs.declared.placed.TypeAt.{TypeAt}
 
--- the letter that a type begins with: b, q, u, !, >, *
-abbrev pub kind_of : Ty → ℕ
-kind_of bit = 98
-kind_of qbit = 113
-kind_of unit = 117
-kind_of (bang a) = 33
-kind_of (arrow a b) = 62
-kind_of (tensor a b) = 42
+-- the type that is meant by what stands after the marks
+abbrev pub core_meant : Core → Ty
+core_meant Bit = bit
+core_meant Qubit = qbit
+core_meant Empty = unit
+core_meant (Arrow a b) = arrow (meant a) (meant b)
+core_meant (Pair a b) = tensor (meant a) (meant b)
 
--- all the leading marks counted, and the place after them
-abbrev pub stripped : List TypeCell → Marked → Marked
-stripped types a =
-    let n = marks (type_at types a.place) in
-    record { marks = a.marks + n; place = a.place + n }
+-- Two parts stand one after the other in a table, from the place after a letter's.
+pub record PartsStand (types : List TypeCell) (place : ℕ) (first second : TypeAt) : Type 0 where
+  pub first_bare : Bare types (place + 1) first
+  pub second_bare : Bare types (past first) second
 
--- the first part begins after the cell that the marks stand before, and the second where the first ends
-abbrev pub parted : List TypeCell → ℕ → Parts
-parted types place =
-    let t = type_at types place in
-    let first = place + marks t + 1 in
-    record { kind = kind_of (core t); marks = marks t; first = first; second = type_end types first }
+-- the parts of an arrow or a pair whose letter is at a place
+abbrev pub PartsAt : List TypeCell → ℕ → Core → Type 0
+PartsAt types place Bit = Unit {0}
+PartsAt types place Qubit = Unit {0}
+PartsAt types place Empty = Unit {0}
+PartsAt types place (Arrow a b) = PartsStand types place a b
+PartsAt types place (Pair a b) = PartsStand types place a b
+
+-- The type is what stands after the marks that were counted, with them in front of it; the parts are where they stand.
+pub record Apart (a : TypeAt) (answer : ℕ × Core) : Type 0 where
+  pub is : meant a ≡ bangs answer.0 (core_meant answer.1)
+  pub count : answer.0 ≡ a.marks + marks (standing a)
+  pub few : answer.0 ≤ a.marks + 255
+  pub parts : PartsAt a.types.now (a.place + marks (standing a)) answer.1

@@ -1,12 +1,11 @@
 -- What is asked of two types that stand in tables.
-use Rattle.std.specs.Prelude.{ℕ, Bool, cond, List, Some, None, Option, ◌==◌}
-use Rattle.calculus.specs.declared.cells.TypeCell.{TypeCell}
+use Rattle.std.specs.Prelude.{ℕ, Bool, cond, Some, None, Option, ◌==◌}
 use Rattle.calculus.specs.Stripping.{same, subtype, marks_fit}
 use Rattle.calculus.specs.Types.{Ty}
-use Rattle.subtyping.specs.declared.relating.Marked.{Marked}
+use Rattle.subtyping.specs.Meaning.{meant, past}
+use Rattle.subtyping.specs.declared.placed.TypeAt.{TypeAt}
 use Rattle.subtyping.specs.declared.relating.Relation.{Relation}
 use Rattle.subtyping.specs.declared.relating.Relation.TheVariants.{Equal, Subtype}
-use Rattle.subtyping.specs.Placing.{meant, type_end}
 
 -- two types have the relation
 abbrev pub related : Relation → Ty → Ty → Bool
@@ -19,6 +18,5 @@ marks_agree Equal n m = n == m
 marks_agree Subtype n m = marks_fit n m
 
 -- one past both types where they have the relation
-abbrev pub related_at : Relation → List TypeCell → Marked → List TypeCell → Marked → Option (ℕ × ℕ)
-related_at r left a right b =
-    cond (related r (meant left a) (meant right b)) (Some (type_end left a.place, type_end right b.place)) None
+abbrev pub related_at : Relation → TypeAt → TypeAt → Option (ℕ × ℕ)
+related_at r a b = cond (related r (meant a) (meant b)) (Some (past a, past b)) None

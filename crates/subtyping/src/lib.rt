@@ -2,7 +2,8 @@
 #![tactic(auto)]
 
 mod parting;
+mod placed;
 mod relating;
 
-pub use parting::{Parts, take_apart};
-pub use relating::{Marked, is_same, is_subtype, kind_at, plain};
+pub use parting::Core;
+pub use placed::TypeAt;

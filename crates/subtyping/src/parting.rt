@@ -1,67 +1,73 @@
-//! Types of a table taken apart: marks, kind and parts.
+//! Types of a table taken apart: marks, and what stands after them.
 
-ghost use Rattle.std.specs.Prelude.{◌≡◌, ◌≤◌};
-ghost use Rattle.calculus.specs.Reading.{TypesStand};
-ghost use Rattle.subtyping.specs.Parting.{parted};
-ghost use Rattle.subtyping.specs.Placing.{Placed, bare, type_end};
+ghost use Rattle.std.specs.Prelude.{◌≡◌, ◌+◌, ◌≤◌, ◌⊎◌};
+ghost use Rattle.calculus.specs.Types.{bangs};
+ghost use Rattle.subtyping.specs.Letters.{kind_of};
+ghost use Rattle.subtyping.specs.Meaning.{meant, past, standing};
+ghost use Rattle.subtyping.specs.Parting.{Apart, PartsStand};
 
-use crate::relating::{Marked, plain, stripped};
-use calculus::TypeCell;
+use crate::placed::TypeAt;
 use trees::reach;
 
-/// A type taken apart: its marks, the kind after them, and where the two parts of an arrow or a pair stand.
+/// What stands after the marks of a type.
 #[derive(Clone, Copy, Drop)]
-pub struct Parts {
-    pub kind: char,
-    pub marks: usize,
-    pub first: usize,
-    pub second: usize,
+pub enum Core<'a> {
+    Bit,
+    Qubit,
+    Unit,
+    Arrow(TypeAt<'a>, TypeAt<'a>),
+    Pair(TypeAt<'a>, TypeAt<'a>),
 }
 
-impl Parts {
-    /// The first part, after the marks of the whole.
-    pub fn first_marked(&self) -> Marked
-        ensures { result ≡ record { marks = self.now.marks; place = self.now.first } }
+impl<'a> TypeAt<'a> {
+    // One past the type.
+    fn past(self) -> usize
+        ensures { result ≡ past self.entry }
     {
-        Marked {
-            marks: self.marks,
-            place: self.first,
-        }
+        reach(self.types, self.place).unwrap()
     }
 
-    /// The second part, after the marks of the whole.
-    pub fn second_marked(&self) -> Marked
-        ensures { result ≡ record { marks = self.now.marks; place = self.now.second } }
+    // The two parts of an arrow or a pair, one after the other.
+    fn parts(self) -> (TypeAt<'a>, TypeAt<'a>)
+        requires { (kind_of (standing self) ≡ 62) ⊎ (kind_of (standing self) ≡ 42) }
+        ensures { PartsStand self.entry.types.now self.entry.place result.0 result.1 }
     {
-        Marked {
-            marks: self.marks,
-            place: self.second,
+        let first = self.next();
+        (first, self.at(first.past()))
+    }
+
+    /// The type taken apart: its marks counted, and what stands after them.
+    pub fn take_apart(self) -> (usize, Core<'a>)
+        ensures { Apart self.entry result }
+    {
+        let (marks, core) = self.strip();
+        let core = match core.kind() {
+            'b' => Core::Bit,
+            'q' => Core::Qubit,
+            '>' => {
+                let (argument, result) = core.parts();
+                Core::Arrow(argument, result)
+            }
+            '*' => {
+                let (left, right) = core.parts();
+                Core::Pair(left, right)
+            }
+            _ => Core::Unit,
+        };
+        (marks, core)
+    }
+
+    /// The type with so many more marks in front of it.
+    pub fn marked(self, marks: usize) -> TypeAt<'a>
+        requires { self.marks + marks ≤ 256 }
+        ensures count { result.marks ≡ self.entry.marks + marks }
+        ensures stands { (result.types.now ≡ self.entry.types.now) × (result.place ≡ self.entry.place) }
+        ensures meant { meant result ≡ bangs marks (meant self.entry) }
+    {
+        TypeAt {
+            types: self.types,
+            marks: self.marks + marks,
+            place: self.place,
         }
-    }
-}
-
-// One past the type at a place, or the next place where there is none.
-fn type_end(types: &[TypeCell], place: usize) -> usize
-    requires { (TypesStand types.now) × (place ≤ 256) }
-    ensures { result ≡ type_end types.now place }
-{
-    match reach(types, place) {
-        Some(end) => end,
-        None => place + 1,
-    }
-}
-
-/// The type at a place, taken apart.
-pub fn take_apart(types: &[TypeCell], place: usize) -> Parts
-    requires { Placed types.now (bare place) }
-    ensures { result ≡ parted types.now place }
-{
-    let core = stripped(types, plain(place));
-    let first = core.place + 1;
-    Parts {
-        kind: types[core.place].kind,
-        marks: core.marks,
-        first,
-        second: type_end(types, first),
     }
 }

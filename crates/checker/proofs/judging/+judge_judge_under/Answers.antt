@@ -1,270 +1,176 @@
-use Rattle.std.proofs.Common.{◌≡◌, ◌+◌, ◌<◌, ◌∷◌, length, sym, ap, ◌∙◌, subst, ap₂, arith, length-set}
+use Rattle.std.proofs.Common.{◌≡◌, ◌+◌, ◌-◌, ◌∷◌, ◌⊎◌, false, true, replicate, slice_set, sym, ap, ◌∙◌, subst, ap₂, arith}
 use Rattle.std.proofs.lemmas.Result.{IfOk-weaker}
 use Rattle.calculus.specs.Terms.{bound, under}
-use Rattle.checker.specs.Ending.{tree_end}
-use Rattle.checker.specs.Judging.{node, around, with_binders, binder_count}
-use Rattle.checker.specs.Scoping.{UsesOf}
-use Rattle.checker.specs.declared.scope.Entered.{Entered}
-use Rattle.subtyping.specs.Parting.{parted}
-use Rattle.subtyping.specs.Placing.{meant}
+use Rattle.calculus.specs.Stripping.{first, left_of, marks, right_of}
+use Rattle.calculus.specs.declared.cells.TermCell.{TermCell}
+use Rattle.checker.specs.Judging.{term_of}
+use Rattle.checker.specs.Scoping.{UsesOf, depth, in_scope, used_below}
+use Rattle.verdict.specs.Sharing.{uncaptured}
 use Rattle.verdict.specs.Uses.{uses}
 use Rattle.verdict.specs.Judging.{verdict_from}
-use Rattle.checker.proofs.Nodes.{claim_stands}
-use Rattle.checker.proofs.Parts.{some_binder, then_go, then_refused, lam_inside, lam_bindable, lam_binders, lam_verdict, lam_uses, lam_parts, two_parts, let_inside, let_parts, let_bindable, let_binders, second_refused, two_left, two_shows, if_parts, then_branch_refused, else_branch_refused, three_left, three_shows, branches_show, part_verdict, part_shows, body_shows, told, var_bound, var_shows}
-use Rattle.checker.proofs.Showing.{shows_none, shows_outside, scope_more, kept_trans, scoped_kept, uncaptured_shows}
 use Rattle.checker.proofs.Entering.{unused}
+use Rattle.checker.proofs.Fits.{arrow_first, arrow_marks, left_is, right_is}
+use Rattle.checker.proofs.Nodes.{letter_is}
+use Rattle.checker.proofs.Parts.{then_go, then_refused, told, verdict_in, uses_in, deep, lam_verdict, lam_uses, not_no_arrow, two_parts, let_parts, not_no_pair, second_refused, two_left, two_shows, if_parts, then_branch_refused, else_branch_refused, three_left, three_shows, branches_show, var_bound, var_shows}
+use Rattle.checker.proofs.Showing.{shows_none, shows_outside, shows_outside_two, uncaptured_shows}
 use Rattle.checker.proofs.judging.+judge_judge_under.Goals as goal
-use Rattle.checker.proofs.judging.+judge_judge_under.Goals.{judge_under-in-Some, judge_under-in_default}
 
 -- v
 
-pub judge-overflow_sub-scope-in-v : goal.judge-overflow_sub-scope-in-v
-judge-overflow_sub-scope-in-v t c =
-    omega (arith, var_bound c.args.program.now c.requires.0 c.args.at _ c.requires.1.0 c.args.scope.now c.in_ok-enter.ensures c.in-v.is)
+pub judge-overflow_sub-len-in-v : goal.judge-overflow_sub-len-in-v
+judge-overflow_sub-len-in-v t c =
+    omega (arith, var_bound c.args.node c.args.scope.now c.in_ok-enter.ensures (letter_is c.cell-cell.ensures c.in-v.is), c.len.ensures.value, ap (λ (x : TermCell). x.argument) c.cell-cell.ensures)
 
 pub judge-returns-in-v-clause-used : goal.judge-returns-in-v-clause-used
 judge-returns-in-v-clause-used t c =
-    var_shows c.args.program.now c.requires.0 c.args.at _ c.requires.1.0 c.args.scope.now c.in_ok-enter.ensures c.in-v.is _ c.requires.1.1.deep c.only.ensures
+    var_shows c.args.node c.args.scope.now c.in_ok-enter.ensures (letter_is c.cell-cell.ensures c.in-v.is) _ (c.only.ensures ∙ ap₂ (λ d x. slice_set (replicate 32 false) (d - 1 - x) true) c.len.ensures.value (ap (λ (x : TermCell). x.argument) c.cell-cell.ensures))
 
 -- l
 
-pub judge-judge_under-requires : goal.judge-judge_under-requires
-judge-judge_under-requires t c =
-    let l = lam_inside c.args.program.now c.requires.0 c.args.at _ c.requires.1.0 c.args.scope.now c.in_ok-enter.ensures c.in-l.is in
-    let b = lam_bindable c.args.program.now c.requires.0 c.args.at _ c.requires.1.0 c.args.scope.now c.in_ok-enter.ensures c.in-l.is _ _ c.take_apart-arrow.ensures c.plain.ensures in
-    (omega (arith, c.decreases, l), (c.requires.0, (l, (c.requires.1.1, b))))
+pub judge-unreachable-requires : goal.judge-unreachable-requires
+judge-unreachable-requires t c =
+    not_no_arrow c.args.node c.args.scope.now c.in_ok-enter.ensures (letter_is c.cell-cell.ensures c.in-l.is) _ _ c.take_apart-marks.ensures c.claim.ensures.claimed c.in_default-core.not-Arrow
 
 pub judge-returns-in_err-used-in-l-clause-verdict : goal.judge-returns-in_err-used-in-l-clause-verdict
 judge-returns-in_err-used-in-l-clause-verdict t c =
     let f = c.in_err-used-in-l.field-0.0 in
-    let bs = lam_binders c.args.program.now c.requires.0 c.args.at _ c.requires.1.0 c.args.scope.now c.in_ok-enter.ensures c.in-l.is _ _ c.take_apart-arrow.ensures c.plain.ensures in
+    let bs = ap (λ b. b ∷ in_scope c.args.scope.now) (sym (arrow_first _ _ c.take_apart-marks.ensures _ _ c.in-Arrow.is) ∙ ap first c.claim.ensures.claimed) in
     told f _ c.from_residual-in_err-used-in-l.ensures.1
-    ∙ then_refused f _ _ (c.in_err-used-in-l.ensures.verdict ∙ ap (λ bs. verdict_from (c.args.at + 1) bs (node c.args.program.now (c.args.at + 1))) bs)
-    ∙ sym (lam_verdict c.args.program.now c.requires.0 c.args.at _ c.requires.1.0 c.args.scope.now c.in_ok-enter.ensures c.in-l.is)
+    ∙ then_refused f _ _ (c.in_err-used-in-l.ensures.verdict ∙ ap (λ bs. verdict_from c.part.result.at bs (term_of c.part.result)) bs)
+    ∙ sym (lam_verdict c.args.node c.args.scope.now c.in_ok-enter.ensures (letter_is c.cell-cell.ensures c.in-l.is) _ c.part.ensures)
 
 pub judge-returns-in_ok-used-in-l-clause-verdict : goal.judge-returns-in_ok-used-in-l-clause-verdict
 judge-returns-in_ok-used-in-l-clause-verdict t c =
     let used = c.in_ok-used-in-l in
-    let bs = lam_binders c.args.program.now c.requires.0 c.args.at _ c.requires.1.0 c.args.scope.now c.in_ok-enter.ensures c.in-l.is _ _ c.take_apart-arrow.ensures c.plain.ensures in
-    let stand = lam_parts c.args.program.now c.requires.0 c.args.at _ c.requires.1.0 c.args.scope.now c.in_ok-enter.ensures c.in-l.is _ c.take_apart-arrow.ensures in
+    let bs = ap (λ b. b ∷ in_scope c.args.scope.now) (sym (arrow_first _ _ c.take_apart-marks.ensures _ _ c.in-Arrow.is) ∙ ap first c.claim.ensures.claimed) in
+    let s = c.args.scope.now in
+    let m = c.part.result in
+    let shown = shows_outside used.used (depth s) (uses (term_of m)) used.ensures.used in
     c.uncaptured.ensures.verdict
-    ∙ uncaptured_shows c.args.program.now.types.now c.args.scope.now c.judge_under.new.scope used.ensures.kept c.args.at _ _ used.used (λ x. uses (node c.args.program.now (c.args.at + 1)) (under x)) stand.count (shows_outside used.used c.args.scope.now.depth (uses (node c.args.program.now (c.args.at + 1))) used.ensures.used)
-    ∙ sym (then_go _ _ (used.ensures.verdict ∙ ap (λ bs. verdict_from (c.args.at + 1) bs (node c.args.program.now (c.args.at + 1))) bs))
-    ∙ sym (lam_verdict c.args.program.now c.requires.0 c.args.at _ c.requires.1.0 c.args.scope.now c.in_ok-enter.ensures c.in-l.is)
+    ∙ ap (λ s. uncaptured c.args.node.at (in_scope s) c.take_apart-marks.result.0 (used_below used.used (depth s))) used.ensures.kept
+    ∙ uncaptured_shows s c.args.node.at _ _ used.used (λ x. uses (term_of m) (under x)) (arrow_marks _ _ c.take_apart-marks.ensures _ _ c.in-Arrow.is ∙ ap marks c.claim.ensures.claimed) shown
+    ∙ sym (then_go _ _ (used.ensures.verdict ∙ ap (λ bs. verdict_from m.at bs (term_of m)) bs))
+    ∙ sym (lam_verdict c.args.node c.args.scope.now c.in_ok-enter.ensures (letter_is c.cell-cell.ensures c.in-l.is) _ c.part.ensures)
 
 pub judge-returns-in_ok-used-in-l-clause-used : goal.judge-returns-in_ok-used-in-l-clause-used
 judge-returns-in_ok-used-in-l-clause-used t c =
     let used = c.in_ok-used-in-l in
-    let shown = shows_outside used.used c.args.scope.now.depth (uses (node c.args.program.now (c.args.at + 1))) used.ensures.used in
-    IfOk-weaker c.uncaptured.result _ _ (λ u e. subst (λ u. UsesOf u c.args.scope.now.depth (node c.args.program.now c.args.at)) (sym e) (λ i k. shown i k ∙ sym (lam_uses c.args.program.now c.requires.0 c.args.at _ c.requires.1.0 c.args.scope.now c.in_ok-enter.ensures c.in-l.is (bound i)))) c.uncaptured.ensures.used
+    let s = c.args.scope.now in
+    let shown = shows_outside used.used (depth s) (uses (term_of c.part.result)) used.ensures.used in
+    let all : UsesOf used.used (depth s) (term_of c.args.node) = λ i k. shown i k ∙ sym (lam_uses c.args.node c.args.scope.now c.in_ok-enter.ensures (letter_is c.cell-cell.ensures c.in-l.is) _ c.part.ensures (bound i)) in
+    IfOk-weaker c.uncaptured.result _ _ (λ u e. subst (λ u. UsesOf u (depth s) (term_of c.args.node)) (sym e) all) c.uncaptured.ensures.used
 
 -- a and p
 
-pub judge-judge-requires : goal.judge-judge-requires
-judge-judge-requires t c =
-    let w = two_parts c.args.program.now c.requires.0 c.args.at _ c.requires.1.0 c.args.scope.now c.in_ok-enter.ensures c.in-a.is in
-    (omega (arith, c.decreases, w.inside), (c.requires.0, (w.inside, c.requires.1.1)))
-
-pub judge-past-requires : goal.judge-past-requires
-judge-past-requires t c =
-    let w = two_parts c.args.program.now c.requires.0 c.args.at _ c.requires.1.0 c.args.scope.now c.in_ok-enter.ensures c.in-a.is in
-    (c.requires.0, w.inside)
-
-pub judge-judge-requires-in-a : goal.judge-judge-requires-in-a
-judge-judge-requires-in-a t c =
-    let w = two_parts c.args.program.now c.requires.0 c.args.at _ c.requires.1.0 c.args.scope.now c.in_ok-enter.ensures c.in-a.is in
-    let l : c.past.result < length c.args.program.now.terms.now = omega (arith, c.past.ensures, w.inside_second) in
-    (omega (arith, c.decreases, l, c.past.ensures), (c.requires.0, (l, scoped_kept _ c.args.scope.now c.judge.new.scope c.in_ok-left-in-a.ensures.kept c.requires.1.1)))
-
 pub judge-returns-in_err-right-in-a-clause-verdict : goal.judge-returns-in_err-right-in-a-clause-verdict
 judge-returns-in_err-right-in-a-clause-verdict t c =
-    let w = two_parts c.args.program.now c.requires.0 c.args.at _ c.requires.1.0 c.args.scope.now c.in_ok-enter.ensures c.in-a.is in
-    let f = c.in_err-right-in-a.field-0.0 in
-    let left = c.in_ok-left-in-a.ensures in
-    told f _ c.from_residual-in_err-right-in-a.ensures.1
-    ∙ second_refused c.args.program.now c.args.at _ _ _ _ w f left.verdict (part_verdict c.args.program.now c.args.scope.now c.judge.new.scope _ _ _ left.kept c.past.ensures c.in_err-right-in-a.ensures.verdict)
+    let w = two_parts c.args.node c.args.scope.now c.in_ok-enter.ensures _ _ c.part-in-a.ensures c.part-in-a-2.ensures (subst (λ (x : TermCell). (x.op ≡ 97) ⊎ (x.op ≡ 112)) c.cell-cell.ensures c.in-a.is) in
+    told _ _ c.from_residual-in_err-right-in-a.ensures.1 ∙ second_refused _ _ _ _ _ _ _ w _ c.in_ok-left-in-a.ensures.verdict (verdict_in c.part-in-a-2.result c.args.scope.now c.judge.new.scope _ c.in_ok-left-in-a.ensures.kept c.in_err-right-in-a.ensures.verdict)
 
 pub judge-returns-in_ok-right-in-a-clause-verdict : goal.judge-returns-in_ok-right-in-a-clause-verdict
 judge-returns-in_ok-right-in-a-clause-verdict t c =
-    let w = two_parts c.args.program.now c.requires.0 c.args.at _ c.requires.1.0 c.args.scope.now c.in_ok-enter.ensures c.in-a.is in
+    let w = two_parts c.args.node c.args.scope.now c.in_ok-enter.ensures _ _ c.part-in-a.ensures c.part-in-a-2.ensures (subst (λ (x : TermCell). (x.op ≡ 97) ⊎ (x.op ≡ 112)) c.cell-cell.ensures c.in-a.is) in
     let left = c.in_ok-left-in-a in
     let right = c.in_ok-right-in-a in
-    let kept = kept_trans c.args.scope.now c.judge.new.scope c.judge-in-a.new.scope left.ensures.kept right.ensures.kept in
-    let shown = part_shows c.args.program.now c.args.scope.now c.judge.new.scope right.right _ _ left.ensures.kept c.past.ensures right.ensures.used in
-    two_left c.args.program.now c.args.at c.args.scope.now c.judge-in-a.new.scope _ _ _ w left.left right.right _ kept left.ensures.used shown
-    left.ensures.verdict (part_verdict c.args.program.now c.args.scope.now c.judge.new.scope _ _ _ left.ensures.kept c.past.ensures right.ensures.verdict) c.apart.ensures.verdict
+    let shown = uses_in c.part-in-a-2.result c.args.scope.now c.judge.new.scope right.right left.ensures.kept right.ensures.used in
+    two_left _ _ _ c.args.scope.now c.judge-in-a.new.scope _ _ _ w left.left right.right _ (right.ensures.kept ∙ left.ensures.kept) left.ensures.used shown
+    left.ensures.verdict (verdict_in c.part-in-a-2.result c.args.scope.now c.judge.new.scope _ c.in_ok-left-in-a.ensures.kept right.ensures.verdict) c.apart.ensures.verdict
 
 pub judge-returns-in_ok-right-in-a-clause-used : goal.judge-returns-in_ok-right-in-a-clause-used
 judge-returns-in_ok-right-in-a-clause-used t c =
-    let w = two_parts c.args.program.now c.requires.0 c.args.at _ c.requires.1.0 c.args.scope.now c.in_ok-enter.ensures c.in-a.is in
+    let w = two_parts c.args.node c.args.scope.now c.in_ok-enter.ensures _ _ c.part-in-a.ensures c.part-in-a-2.ensures (subst (λ (x : TermCell). (x.op ≡ 97) ⊎ (x.op ≡ 112)) c.cell-cell.ensures c.in-a.is) in
     let left = c.in_ok-left-in-a in
     let right = c.in_ok-right-in-a in
-    let shown = part_shows c.args.program.now c.args.scope.now c.judge.new.scope right.right _ _ left.ensures.kept c.past.ensures right.ensures.used in
-    IfOk-weaker c.apart.result _ _ (λ u e. two_shows c.args.program.now c.args.at _ _ _ _ w u left.left right.right c.args.scope.now.depth c.requires.1.1.deep left.ensures.used shown e) c.apart.ensures.used
+    let shown = uses_in c.part-in-a-2.result c.args.scope.now c.judge.new.scope right.right left.ensures.kept right.ensures.used in
+    IfOk-weaker c.apart.result _ _ (λ u e. two_shows _ _ _ _ _ _ _ w u left.left right.right (depth c.args.scope.now) (deep c.args.node c.args.scope.now c.in_ok-enter.ensures) left.ensures.used shown e) c.apart.ensures.used
 
 -- d
 
-pub judge-claim-requires : goal.judge-claim-requires
-judge-claim-requires t c =
-    (c.requires.0, let_inside c.args.program.now c.requires.0 c.args.at _ c.requires.1.0 c.args.scope.now c.in_ok-enter.ensures c.in-d.is)
-
-pub judge-take_apart-pair-requires : goal.judge-take_apart-pair-requires
-judge-take_apart-pair-requires t c =
-    let stands = claim_stands c.args.program.now c.requires.0 (c.args.at + 1) record { op = 0; argument = 0; claim = 0 } (let_inside c.args.program.now c.requires.0 c.args.at _ c.requires.1.0 c.args.scope.now c.in_ok-enter.ensures c.in-d.is) in
-    rw c.claim.ensures stands
-
-pub judge-judge-requires-in-d : goal.judge-judge-requires-in-d
-judge-judge-requires-in-d t c =
-    let l = let_inside c.args.program.now c.requires.0 c.args.at _ c.requires.1.0 c.args.scope.now c.in_ok-enter.ensures c.in-d.is in
-    (omega (arith, c.decreases, l), (c.requires.0, (l, c.requires.1.1)))
-
-pub judge-past-requires-in-d : goal.judge-past-requires-in-d
-judge-past-requires-in-d t c =
-    (c.requires.0, let_inside c.args.program.now c.requires.0 c.args.at _ c.requires.1.0 c.args.scope.now c.in_ok-enter.ensures c.in-d.is)
-
-pub judge-judge_under-requires-in-d : goal.judge-judge_under-requires-in-d
-judge-judge_under-requires-in-d t c =
-    let w = let_parts c.args.program.now c.requires.0 c.args.at _ c.requires.1.0 c.args.scope.now c.in_ok-enter.ensures c.in-d.is in
-    let l : c.past-in-d.result < length c.args.program.now.terms.now = omega (arith, c.past-in-d.ensures, w.inside_second) in
-    let kept = c.in_ok-given-in-d.ensures.kept in
-    let pair = c.take_apart-pair.ensures ∙ ap (parted c.args.program.now.types.now) c.claim.ensures in
-    let b = let_bindable c.args.program.now c.requires.0 c.args.at _ c.requires.1.0 c.args.scope.now c.in_ok-enter.ensures c.in-d.is c.judge-in-d.new.scope _ _ _ kept pair c.first_marked.ensures c.second_marked.ensures in
-    (omega (arith, c.decreases, l, c.past-in-d.ensures), (c.requires.0, (l, (scoped_kept _ c.args.scope.now c.judge-in-d.new.scope kept c.requires.1.1, b))))
+pub judge-unreachable-requires-in_default-core-2 : goal.judge-unreachable-requires-in_default-core-2
+judge-unreachable-requires-in_default-core-2 t c =
+    not_no_pair c.args.node c.args.scope.now c.in_ok-enter.ensures (letter_is c.cell-cell.ensures c.in-d.is) _ c.part-pair.ensures _ _ c.take_apart-marks-in-d.ensures c.claim-in-d.ensures.claimed c.in_default-core-2.not-Pair
 
 pub judge-returns-in_err-body-in-d-clause-verdict : goal.judge-returns-in_err-body-in-d-clause-verdict
 judge-returns-in_err-body-in-d-clause-verdict t c =
-    let w = let_parts c.args.program.now c.requires.0 c.args.at _ c.requires.1.0 c.args.scope.now c.in_ok-enter.ensures c.in-d.is in
+    let w = let_parts c.args.node c.args.scope.now c.in_ok-enter.ensures _ _ c.part-pair.ensures c.part-in-d.ensures (letter_is c.cell-cell.ensures c.in-d.is) in
     let given = c.in_ok-given-in-d in
-    let pair = c.take_apart-pair.ensures ∙ ap (parted c.args.program.now.types.now) c.claim.ensures in
-    let bs = let_binders c.args.program.now c.requires.0 c.args.at _ c.requires.1.0 c.args.scope.now c.in_ok-enter.ensures c.in-d.is c.judge-in-d.new.scope _ _ _ given.ensures.kept pair c.first_marked.ensures c.second_marked.ensures in
-    let f = c.in_err-body-in-d.field-0.0 in
-    told f _ c.from_residual-in_err-body-in-d.ensures.1
-    ∙ second_refused c.args.program.now c.args.at _ _ _ _ w f given.ensures.verdict (c.in_err-body-in-d.ensures.verdict ∙ ap₂ (λ q bs. verdict_from q bs (node c.args.program.now q)) c.past-in-d.ensures bs)
+    let claimed = c.claim-in-d.ensures.claimed in
+    let left = c.marked.ensures.meant ∙ left_is _ _ c.take_apart-marks-in-d.ensures _ _ c.in-Pair.is ∙ ap left_of claimed in
+    let right = c.marked-in-d.ensures.meant ∙ right_is _ _ c.take_apart-marks-in-d.ensures _ _ c.in-Pair.is ∙ ap right_of claimed in
+    let bs = ap₂ (λ b bs. b ∷ bs) right (ap₂ (λ b s. b ∷ in_scope s) left given.ensures.kept) in
+    told _ _ c.from_residual-in_err-body-in-d.ensures.1
+    ∙ second_refused _ _ _ _ _ _ _ w _ given.ensures.verdict (c.in_err-body-in-d.ensures.verdict ∙ ap (λ bs. verdict_from c.part-in-d.result.at bs (term_of c.part-in-d.result)) bs)
 
 pub judge-returns-in_ok-body-in-d-clause-verdict : goal.judge-returns-in_ok-body-in-d-clause-verdict
 judge-returns-in_ok-body-in-d-clause-verdict t c =
-    let w = let_parts c.args.program.now c.requires.0 c.args.at _ c.requires.1.0 c.args.scope.now c.in_ok-enter.ensures c.in-d.is in
+    let w = let_parts c.args.node c.args.scope.now c.in_ok-enter.ensures _ _ c.part-pair.ensures c.part-in-d.ensures (letter_is c.cell-cell.ensures c.in-d.is) in
     let given = c.in_ok-given-in-d in
-    let pair = c.take_apart-pair.ensures ∙ ap (parted c.args.program.now.types.now) c.claim.ensures in
-    let bs = let_binders c.args.program.now c.requires.0 c.args.at _ c.requires.1.0 c.args.scope.now c.in_ok-enter.ensures c.in-d.is c.judge-in-d.new.scope _ _ _ given.ensures.kept pair c.first_marked.ensures c.second_marked.ensures in
+    let claimed = c.claim-in-d.ensures.claimed in
+    let left = c.marked.ensures.meant ∙ left_is _ _ c.take_apart-marks-in-d.ensures _ _ c.in-Pair.is ∙ ap left_of claimed in
+    let right = c.marked-in-d.ensures.meant ∙ right_is _ _ c.take_apart-marks-in-d.ensures _ _ c.in-Pair.is ∙ ap right_of claimed in
+    let bs = ap₂ (λ b bs. b ∷ bs) right (ap₂ (λ b s. b ∷ in_scope s) left given.ensures.kept) in
+    let s = c.args.scope.now in
     let body = c.in_ok-body-in-d in
-    let kept = kept_trans c.args.scope.now c.judge-in-d.new.scope c.judge_under-in-d.new.scope given.ensures.kept body.ensures.kept in
-    let shown = body_shows c.args.program.now c.args.scope.now c.judge-in-d.new.scope body.body _ _ given.ensures.kept c.past-in-d.ensures body.ensures.used in
-    two_left c.args.program.now c.args.at c.args.scope.now c.judge_under-in-d.new.scope _ _ _ w given.given body.body _ kept given.ensures.used shown
-    given.ensures.verdict (body.ensures.verdict ∙ ap₂ (λ q bs. verdict_from q bs (node c.args.program.now q)) c.past-in-d.ensures bs) c.apart-in-d.ensures.verdict
+    let shown = shows_outside_two body.body (depth s) (uses (term_of c.part-in-d.result)) (subst (λ t. UsesOf body.body (depth t + 2) (term_of c.part-in-d.result)) given.ensures.kept body.ensures.used) in
+    two_left _ _ _ s c.judge_under-in-d.new.scope _ _ _ w given.given body.body _ (body.ensures.kept ∙ given.ensures.kept) given.ensures.used shown
+    given.ensures.verdict (body.ensures.verdict ∙ ap (λ bs. verdict_from c.part-in-d.result.at bs (term_of c.part-in-d.result)) bs) c.apart-in-d.ensures.verdict
 
 pub judge-returns-in_ok-body-in-d-clause-used : goal.judge-returns-in_ok-body-in-d-clause-used
 judge-returns-in_ok-body-in-d-clause-used t c =
-    let w = let_parts c.args.program.now c.requires.0 c.args.at _ c.requires.1.0 c.args.scope.now c.in_ok-enter.ensures c.in-d.is in
+    let w = let_parts c.args.node c.args.scope.now c.in_ok-enter.ensures _ _ c.part-pair.ensures c.part-in-d.ensures (letter_is c.cell-cell.ensures c.in-d.is) in
     let given = c.in_ok-given-in-d in
+    let s = c.args.scope.now in
     let body = c.in_ok-body-in-d in
-    let shown = body_shows c.args.program.now c.args.scope.now c.judge-in-d.new.scope body.body _ _ given.ensures.kept c.past-in-d.ensures body.ensures.used in
-    IfOk-weaker c.apart-in-d.result _ _ (λ u e. two_shows c.args.program.now c.args.at _ _ _ _ w u given.given body.body c.args.scope.now.depth c.requires.1.1.deep given.ensures.used shown e) c.apart-in-d.ensures.used
+    let shown = shows_outside_two body.body (depth s) (uses (term_of c.part-in-d.result)) (subst (λ t. UsesOf body.body (depth t + 2) (term_of c.part-in-d.result)) given.ensures.kept body.ensures.used) in
+    IfOk-weaker c.apart-in-d.result _ _ (λ u e. two_shows _ _ _ _ _ _ _ w u given.given body.body (depth s) (deep c.args.node c.args.scope.now c.in_ok-enter.ensures) given.ensures.used shown e) c.apart-in-d.ensures.used
 
 -- i
 
-pub judge-past-second-requires : goal.judge-past-second-requires
-judge-past-second-requires t c =
-    let w = if_parts c.args.program.now c.requires.0 c.args.at _ c.requires.1.0 c.args.scope.now c.in_ok-enter.ensures c.in-i.is in
-    (c.requires.0, w.inside)
-
-pub judge-judge-requires-in-i : goal.judge-judge-requires-in-i
-judge-judge-requires-in-i t c =
-    let w = if_parts c.args.program.now c.requires.0 c.args.at _ c.requires.1.0 c.args.scope.now c.in_ok-enter.ensures c.in-i.is in
-    (omega (arith, c.decreases, w.inside), (c.requires.0, (w.inside, c.requires.1.1)))
-
-pub judge-judge-requires-in-i-2 : goal.judge-judge-requires-in-i-2
-judge-judge-requires-in-i-2 t c =
-    let w = if_parts c.args.program.now c.requires.0 c.args.at _ c.requires.1.0 c.args.scope.now c.in_ok-enter.ensures c.in-i.is in
-    let l : c.past-second.result < length c.args.program.now.terms.now = omega (arith, c.past-second.ensures, w.inside_second) in
-    (omega (arith, c.decreases, l, c.past-second.ensures), (c.requires.0, (l, scoped_kept _ c.args.scope.now c.judge-in-i.new.scope c.in_ok-condition-in-i.ensures.kept c.requires.1.1)))
-
-pub judge-past-requires-in-i : goal.judge-past-requires-in-i
-judge-past-requires-in-i t c =
-    let w = if_parts c.args.program.now c.requires.0 c.args.at _ c.requires.1.0 c.args.scope.now c.in_ok-enter.ensures c.in-i.is in
-    (c.requires.0, omega (arith, c.past-second.ensures, w.inside_second))
-
-pub judge-judge-requires-in-i-3 : goal.judge-judge-requires-in-i-3
-judge-judge-requires-in-i-3 t c =
-    let w = if_parts c.args.program.now c.requires.0 c.args.at _ c.requires.1.0 c.args.scope.now c.in_ok-enter.ensures c.in-i.is in
-    let e = c.past-in-i.ensures ∙ ap (tree_end c.args.program.now.terms.now) c.past-second.ensures in
-    let l : c.past-in-i.result < length c.args.program.now.terms.now = omega (arith, e, w.inside_third) in
-    let kept = kept_trans c.args.scope.now c.judge-in-i.new.scope c.judge-in-i-2.new.scope c.in_ok-condition-in-i.ensures.kept c.in_ok-then-in-i.ensures.kept in
-    (omega (arith, c.decreases, l, c.past-in-i.ensures, c.past-second.ensures), (c.requires.0, (l, scoped_kept _ c.args.scope.now c.judge-in-i-2.new.scope kept c.requires.1.1)))
-
 pub judge-returns-in_err-then-in-i-clause-verdict : goal.judge-returns-in_err-then-in-i-clause-verdict
 judge-returns-in_err-then-in-i-clause-verdict t c =
-    let f = c.in_err-then-in-i.field-0.0 in
-    told f _ c.from_residual-in_err-then-in-i.ensures.1
-    ∙ then_branch_refused c.args.program.now c.args.at _ (if_parts c.args.program.now c.requires.0 c.args.at _ c.requires.1.0 c.args.scope.now c.in_ok-enter.ensures c.in-i.is) f c.in_ok-condition-in-i.ensures.verdict
-    (part_verdict c.args.program.now c.args.scope.now c.judge-in-i.new.scope _ _ _ c.in_ok-condition-in-i.ensures.kept c.past-second.ensures c.in_err-then-in-i.ensures.verdict)
+    let first = c.in_ok-condition-in-i.ensures in
+    told _ _ c.from_residual-in_err-then-in-i.ensures.1
+    ∙ then_branch_refused c.args.node c.args.scope.now c.in_ok-enter.ensures _ _ c.part-in-i.ensures c.part-in-i-2.ensures (letter_is c.cell-cell.ensures c.in-i.is) _ first.verdict (verdict_in c.part-in-i-2.result c.args.scope.now c.judge-in-i.new.scope _ first.kept c.in_err-then-in-i.ensures.verdict)
 
 pub judge-returns-in_err-other-in-i-clause-verdict : goal.judge-returns-in_err-other-in-i-clause-verdict
 judge-returns-in_err-other-in-i-clause-verdict t c =
-    let f = c.in_err-other-in-i.field-0.0 in
-    let kept = kept_trans c.args.scope.now c.judge-in-i.new.scope c.judge-in-i-2.new.scope c.in_ok-condition-in-i.ensures.kept c.in_ok-then-in-i.ensures.kept in
-    let place = c.past-in-i.ensures ∙ ap (tree_end c.args.program.now.terms.now) c.past-second.ensures in
-    told f _ c.from_residual-in_err-other-in-i.ensures.1
-    ∙ else_branch_refused c.args.program.now c.args.at _ (if_parts c.args.program.now c.requires.0 c.args.at _ c.requires.1.0 c.args.scope.now c.in_ok-enter.ensures c.in-i.is) f c.in_ok-condition-in-i.ensures.verdict
-    (part_verdict c.args.program.now c.args.scope.now c.judge-in-i.new.scope _ _ _ c.in_ok-condition-in-i.ensures.kept c.past-second.ensures c.in_ok-then-in-i.ensures.verdict)
-    (part_verdict c.args.program.now c.args.scope.now c.judge-in-i-2.new.scope _ _ _ kept place c.in_err-other-in-i.ensures.verdict)
+    let w = if_parts c.args.node c.args.scope.now c.in_ok-enter.ensures _ _ c.part-in-i.ensures c.part-in-i-2.ensures (letter_is c.cell-cell.ensures c.in-i.is) _ c.part-in-i-3.ensures in
+    let s = c.args.scope.now in
+    let first = c.in_ok-condition-in-i.ensures in
+    let then = c.in_ok-then-in-i.ensures in
+    told _ _ c.from_residual-in_err-other-in-i.ensures.1
+    ∙ else_branch_refused _ _ _ _ _ w _ first.verdict (verdict_in c.part-in-i-2.result s c.judge-in-i.new.scope _ first.kept then.verdict) (verdict_in c.part-in-i-3.result s c.judge-in-i-2.new.scope _ (then.kept ∙ first.kept) c.in_err-other-in-i.ensures.verdict)
 
 pub judge-returns-in_ok-other-in-i-clause-verdict : goal.judge-returns-in_ok-other-in-i-clause-verdict
 judge-returns-in_ok-other-in-i-clause-verdict t c =
+    let w = if_parts c.args.node c.args.scope.now c.in_ok-enter.ensures _ _ c.part-in-i.ensures c.part-in-i-2.ensures (letter_is c.cell-cell.ensures c.in-i.is) _ c.part-in-i-3.ensures in
+    let s = c.args.scope.now in
     let first = c.in_ok-condition-in-i in
     let then = c.in_ok-then-in-i in
     let other = c.in_ok-other-in-i in
-    let kept = kept_trans c.args.scope.now c.judge-in-i.new.scope c.judge-in-i-2.new.scope c.in_ok-condition-in-i.ensures.kept c.in_ok-then-in-i.ensures.kept in
-    let place = c.past-in-i.ensures ∙ ap (tree_end c.args.program.now.terms.now) c.past-second.ensures in
-    let w = if_parts c.args.program.now c.requires.0 c.args.at _ c.requires.1.0 c.args.scope.now c.in_ok-enter.ensures c.in-i.is in
+    let kept = then.ensures.kept ∙ first.ensures.kept in
     let branches =
-    branches_show c.args.program.now c.args.at _ w c.either.result then.then other.other c.args.scope.now.depth c.requires.1.1.deep
-    (part_shows c.args.program.now c.args.scope.now c.judge-in-i.new.scope then.then _ _ first.ensures.kept c.past-second.ensures then.ensures.used)
-    (part_shows c.args.program.now c.args.scope.now c.judge-in-i-2.new.scope other.other _ _ kept place other.ensures.used)
-    c.either.ensures in
-    let all_kept = kept_trans c.args.scope.now c.judge-in-i-2.new.scope c.judge-in-i-3.new.scope kept other.ensures.kept in
-    three_left c.args.program.now c.args.at c.args.scope.now c.judge-in-i-3.new.scope w first.condition c.either.result _ all_kept first.ensures.used branches
-    first.ensures.verdict (part_verdict c.args.program.now c.args.scope.now c.judge-in-i.new.scope _ _ _ first.ensures.kept c.past-second.ensures then.ensures.verdict) (part_verdict c.args.program.now c.args.scope.now c.judge-in-i-2.new.scope _ _ _ kept place other.ensures.verdict) c.apart-in-i.ensures.verdict
+    branches_show _ _ _ _ _ w c.either.result then.then other.other (depth s) (deep c.args.node c.args.scope.now c.in_ok-enter.ensures)
+    (uses_in c.part-in-i-2.result s c.judge-in-i.new.scope then.then first.ensures.kept then.ensures.used) (uses_in c.part-in-i-3.result s c.judge-in-i-2.new.scope other.other kept other.ensures.used) c.either.ensures in
+    three_left _ _ _ _ s c.judge-in-i-3.new.scope w first.condition c.either.result _ (other.ensures.kept ∙ kept) first.ensures.used branches
+    first.ensures.verdict (verdict_in c.part-in-i-2.result s c.judge-in-i.new.scope _ first.ensures.kept then.ensures.verdict) (verdict_in c.part-in-i-3.result s c.judge-in-i-2.new.scope _ kept other.ensures.verdict) c.apart-in-i.ensures.verdict
 
 pub judge-returns-in_ok-other-in-i-clause-used : goal.judge-returns-in_ok-other-in-i-clause-used
 judge-returns-in_ok-other-in-i-clause-used t c =
+    let w = if_parts c.args.node c.args.scope.now c.in_ok-enter.ensures _ _ c.part-in-i.ensures c.part-in-i-2.ensures (letter_is c.cell-cell.ensures c.in-i.is) _ c.part-in-i-3.ensures in
+    let s = c.args.scope.now in
     let first = c.in_ok-condition-in-i in
     let then = c.in_ok-then-in-i in
     let other = c.in_ok-other-in-i in
-    let kept = kept_trans c.args.scope.now c.judge-in-i.new.scope c.judge-in-i-2.new.scope c.in_ok-condition-in-i.ensures.kept c.in_ok-then-in-i.ensures.kept in
-    let place = c.past-in-i.ensures ∙ ap (tree_end c.args.program.now.terms.now) c.past-second.ensures in
-    let w = if_parts c.args.program.now c.requires.0 c.args.at _ c.requires.1.0 c.args.scope.now c.in_ok-enter.ensures c.in-i.is in
+    let kept = then.ensures.kept ∙ first.ensures.kept in
     let branches =
-    branches_show c.args.program.now c.args.at _ w c.either.result then.then other.other c.args.scope.now.depth c.requires.1.1.deep
-    (part_shows c.args.program.now c.args.scope.now c.judge-in-i.new.scope then.then _ _ first.ensures.kept c.past-second.ensures then.ensures.used)
-    (part_shows c.args.program.now c.args.scope.now c.judge-in-i-2.new.scope other.other _ _ kept place other.ensures.used)
-    c.either.ensures in
-    IfOk-weaker c.apart-in-i.result _ _ (λ u e. three_shows c.args.program.now c.args.at _ w u first.condition c.either.result c.args.scope.now.depth c.requires.1.1.deep first.ensures.used branches e) c.apart-in-i.ensures.used
+    branches_show _ _ _ _ _ w c.either.result then.then other.other (depth s) (deep c.args.node c.args.scope.now c.in_ok-enter.ensures)
+    (uses_in c.part-in-i-2.result s c.judge-in-i.new.scope then.then first.ensures.kept then.ensures.used) (uses_in c.part-in-i-3.result s c.judge-in-i-2.new.scope other.other kept other.ensures.used) c.either.ensures in
+    IfOk-weaker c.apart-in-i.result _ _ (λ u e. three_shows _ _ _ _ _ w u first.condition c.either.result (depth s) (deep c.args.node c.args.scope.now c.in_ok-enter.ensures) first.ensures.used branches e) c.apart-in-i.ensures.used
 
 -- a leaf
+
 pub judge-returns-in_default-clause-used : goal.judge-returns-in_default-clause-used
 judge-returns-in_default-clause-used t c =
-    let free = unused c.args.program.now c.requires.0 c.args.at record { op = 0; argument = 0; claim = 0 } c.requires.1.0 (λ e. omega arith) (λ e. omega arith) (λ e. grind arith) (λ e. grind arith) (λ e. omega arith) (λ e. omega arith) in
-    shows_none c.none.result c.args.scope.now.depth (uses (node c.args.program.now c.args.at)) c.requires.1.1.deep c.none.ensures free
-
--- under binders
-pub judge_under-returns-clause-verdict : goal.judge_under-returns-clause-verdict
-judge_under-returns-clause-verdict t c =
-    let p = c.args.program.now in
-    let s = c.args.scope.now in
-    let outer = c.args.outer in
-    let room = c.requires.1.1.1.deep in
-    let l : s.depth < length s.binders = omega (arith, room, some_binder c.args.inner) in
-    let once = scope_more p.types.now s c.bind.new.scope outer l c.bind.ensures.0 c.bind.ensures.1 in
-    let binders : around p c.match-inner.entered.scope.now ≡ with_binders p.types.now outer c.args.inner (around p s) =
-    elim c.match-inner.branch [
-      | judge_under-in-Some w ↦ (
-          let m : c.bind.new.scope.depth < length c.bind.new.scope.binders = omega (arith, room, ap binder_count w.in-Some.is, c.bind.ensures.0, ap length c.bind.ensures.1, length-set s.binders s.depth outer) in
-          ap (λ (x : Entered). around p x.scope.now) w.entered-is
-          ∙ scope_more p.types.now c.bind.new.scope w.bind-in-Some.new.scope w.in-Some.binder m w.bind-in-Some.ensures.0 w.bind-in-Some.ensures.1
-          ∙ ap (λ bs. meant p.types.now w.in-Some.binder ∷ bs) once
-          ∙ sym (ap (λ i. with_binders p.types.now outer i (around p s)) w.in-Some.is))
-      | judge_under-in_default w ↦
-          ap (λ (x : Entered). around p x.scope.now) w.entered-is ∙ once ∙ sym (ap (λ i. with_binders p.types.now outer i (around p s)) w.in_default.is)
-    ] in
-    c.judge.ensures.verdict ∙ ap (λ bs. verdict_from c.args.at bs (node p c.args.at)) binders
+    let free = unused c.args.node _ c.cell-cell.ensures (λ k. omega arith) (λ k. omega arith) (λ k. grind arith) (λ k. grind arith) (λ k. omega arith) (λ k. omega arith) in
+    shows_none c.none.result (depth c.args.scope.now) (uses (term_of c.args.node)) (deep c.args.node c.args.scope.now c.in_ok-enter.ensures) c.none.ensures free

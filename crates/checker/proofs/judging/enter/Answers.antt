@@ -6,12 +6,12 @@ use Rattle.checker.proofs.judging.enter.Goals as goal
 pub returns-in_err-test_depth : goal.returns-in_err-test_depth
 returns-in_err-test_depth c =
     let p = err_from_is_err_and c.from_residual.result c.from_residual.ensures.1 in
-    p.1 ∙ ap Err p.2 ∙ depth_refused c.args.program.now c.requires.0 c.args.at _ c.requires.1.0 c.args.scope.now c.in_err-test_depth.field-0.0 c.in_err-test_depth.ensures
+    p.1 ∙ ap Err p.2 ∙ depth_refused c.args.node c.args.scope.now c.in_err-test_depth.field-0.0 _ _ c.cell.ensures c.len.ensures.value c.in_err-test_depth.ensures
 
 pub returns-then-not-claims_agree : goal.returns-then-not-claims_agree
 returns-then-not-claims_agree c =
-    claims_tested c.args.program.now c.requires.0 c.args.at _ c.requires.1.0 c.args.scope.now _ c.in_ok-test_depth.ensures c.if-not-claims_agree.ensures
+    claims_tested c.args.node c.args.scope.now _ _ _ c.cell.ensures c.len.ensures.value c.in_ok-test_depth.ensures c.if-not-claims_agree.ensures
 
 pub returns : goal.returns
 returns c =
-    claims_tested c.args.program.now c.requires.0 c.args.at _ c.requires.1.0 c.args.scope.now _ c.in_ok-test_depth.ensures c.if-not-claims_agree.ensures
+    claims_tested c.args.node c.args.scope.now _ _ _ c.cell.ensures c.len.ensures.value c.in_ok-test_depth.ensures c.if-not-claims_agree.ensures

@@ -1,71 +1,88 @@
-use Rattle.std.proofs.Common.{sym, ap, ◌∙◌, arith}
-use Rattle.subtyping.specs.declared.relating.Marked.{Marked}
-use Rattle.subtyping.specs.Placing.{bare}
-use Rattle.subtyping.proofs.Pairing.{marks_differ, kinds_differ, leaves, arrow_halves, pair_halves, related_some, related_none, placed_at, stop, go, moved}
+use Rattle.std.proofs.Common.{sym, ◌∙◌, arith}
+use Rattle.subtyping.proofs.Pairing.{marks_differ, kinds_differ, leaves, arrow_halves, pair_halves, related_some, related_none}
+use Rattle.subtyping.proofs.Places.{stands, strips}
 use Rattle.subtyping.proofs.relating.+relate.Goals as goal
-use Rattle.subtyping.proofs.relating.+relate.Goals.{then-not-marks_agree-via-then-not-marks_agree, then-not-marks_agree-via-else-not-marks_agree+then-kind-right}
+use Rattle.subtyping.proofs.relating.+relate.Goals.{then-not-marks_agree-via-then-not-marks_agree, then-not-marks_agree-via-else-not-marks_agree+then-kind}
 
 pub returns-then-not-marks_agree : goal.returns-then-not-marks_agree
 returns-then-not-marks_agree t c =
     elim c.then-not-marks_agree.branch [
-      | then-not-marks_agree-via-then-not-marks_agree w ↦ sym (marks_differ c.args.relation _ _ _ _ _ _ c.requires.0 c.requires.1 c.stripped-a.ensures.value c.stripped-b.ensures.value (sym w.if-not-marks_agree.ensures))
-      | then-not-marks_agree-via-else-not-marks_agree+then-kind-right w ↦ sym (kinds_differ c.args.relation _ _ _ _ _ _ c.requires.0 c.requires.1 c.stripped-a.ensures.value c.stripped-b.ensures.value _ _ w.if-kind-right.true)
+      | then-not-marks_agree-via-then-not-marks_agree w ↦ sym (marks_differ c.args.relation _ _ _ _ c.strip-left_marks.ensures c.strip-right_marks.ensures (sym w.if-not-marks_agree.ensures))
+      | then-not-marks_agree-via-else-not-marks_agree+then-kind w ↦ sym (kinds_differ c.args.relation _ _ _ _ c.strip-left_marks.ensures c.strip-right_marks.ensures _ _ c.kind-kind.ensures w.kind.ensures w.if-kind.true)
     ]
 
 pub returns-in_default : goal.returns-in_default
 returns-in_default t c =
-    leaves c.args.relation _ _ _ _ _ _ c.requires.0 c.requires.1 c.stripped-a.ensures.value c.stripped-b.ensures.value _ _ (sym c.if-not-marks_agree.ensures) c.if-kind-right.false (λ e. omega arith) (λ e. omega arith)
+    leaves c.args.relation _ _ _ _ c.strip-left_marks.ensures c.strip-right_marks.ensures _ _ c.kind-kind.ensures c.kind.ensures c.if-not-marks_agree.ensures c.if-kind.false (λ e. omega arith) (λ e. omega arith)
 
-pub relate-requires : goal.relate-requires
-relate-requires t c =
-    let h = arrow_halves c.args.relation _ _ _ _ _ _ c.requires.0 c.requires.1 c.stripped-a.ensures.value c.stripped-b.ensures.value _ _ (sym c.if-not-marks_agree.ensures) c.if-kind-right.false c.in-62.is in
-    let u = ap (λ (m : Marked). m.place) c.plain-first_a.ensures in
-    let v = ap (λ (m : Marked). m.place) c.plain-first_b.ensures in
-    (omega (arith, c.decreases, u, v), (placed_at _ _ _ _ c.requires.1 c.plain-first_b.ensures h.right_first, placed_at _ _ _ _ c.requires.0 c.plain-first_a.ensures h.left_first))
+pub next-requires : goal.next-requires
+next-requires t c =
+    (arrow_halves c.args.relation _ _ _ _ c.strip-left_marks.ensures c.strip-right_marks.ensures _ _ c.kind-kind.ensures c.kind.ensures c.if-not-marks_agree.ensures c.if-kind.false c.in-62.is).right_first
+
+pub next-requires-in-62 : goal.next-requires-in-62
+next-requires-in-62 t c =
+    (arrow_halves c.args.relation _ _ _ _ c.strip-left_marks.ensures c.strip-right_marks.ensures _ _ c.kind-kind.ensures c.kind.ensures c.if-not-marks_agree.ensures c.if-kind.false c.in-62.is).left_first
+
+pub returns-in_err-right_end-in-62 : goal.returns-in_err-right_end-in-62
+returns-in_err-right_end-in-62 t c =
+    let n = related_none c.args.relation _ _ _ _ _ _ c.next.ensures c.next-in-62.ensures (sym c.in_err-right_end-in-62.was ∙ c.relate.ensures) in
+    c.from_residual.ensures ∙ (arrow_halves c.args.relation _ _ _ _ c.strip-left_marks.ensures c.strip-right_marks.ensures _ _ c.kind-kind.ensures c.kind.ensures c.if-not-marks_agree.ensures c.if-kind.false c.in-62.is).none n
+
+pub at-requires : goal.at-requires
+at-requires t c =
+    let h = arrow_halves c.args.relation _ _ _ _ c.strip-left_marks.ensures c.strip-right_marks.ensures _ _ c.kind-kind.ensures c.kind.ensures c.if-not-marks_agree.ensures c.if-kind.false c.in-62.is in
+    let k = related_some c.args.relation _ _ _ _ _ _ c.next.ensures c.next-in-62.ensures _ _ (sym c.in_ok-right_end-in-62.was ∙ c.relate.ensures) in
+    rw k.2 h.left_second
+
+pub at-requires-in-62 : goal.at-requires-in-62
+at-requires-in-62 t c =
+    let h = arrow_halves c.args.relation _ _ _ _ c.strip-left_marks.ensures c.strip-right_marks.ensures _ _ c.kind-kind.ensures c.kind.ensures c.if-not-marks_agree.ensures c.if-kind.false c.in-62.is in
+    let k = related_some c.args.relation _ _ _ _ _ _ c.next.ensures c.next-in-62.ensures _ _ (sym c.in_ok-right_end-in-62.was ∙ c.relate.ensures) in
+    rw k.1 h.right_second
 
 pub relate-requires-in-62 : goal.relate-requires-in-62
 relate-requires-in-62 t c =
-    let h = arrow_halves c.args.relation _ _ _ _ _ _ c.requires.0 c.requires.1 c.stripped-a.ensures.value c.stripped-b.ensures.value _ _ (sym c.if-not-marks_agree.ensures) c.if-kind-right.false c.in-62.is in
-    let k = related_some c.args.relation _ _ _ _ _ _ _ _ (sym c.in_ok-second_b-in-62.was ∙ c.relate.ensures) c.plain-first_b.ensures c.plain-first_a.ensures in
-    let u = ap (λ (m : Marked). m.place) c.plain.ensures in
-    let v = ap (λ (m : Marked). m.place) c.plain-in-62.ensures in
-    (omega (arith, c.decreases, u, v, k.2, k.1), (placed_at _ _ _ _ c.requires.0 c.plain.ensures (rw k.2 h.left_second), placed_at _ _ _ _ c.requires.1 c.plain-in-62.ensures (rw k.1 h.right_second)))
+    let k = related_some c.args.relation _ _ _ _ _ _ c.next.ensures c.next-in-62.ensures _ _ (sym c.in_ok-right_end-in-62.was ∙ c.relate.ensures) in
+    (omega (arith, c.decreases, (stands _ _ _ c.at.ensures).cells, (stands _ _ _ c.at-in-62.ensures).cells, (strips _ _ c.strip-left_marks.ensures).on, (strips _ _ c.strip-right_marks.ensures).on, k.1, k.2, c.strip-left_marks.result.1.placed.within), tt)
 
-pub returns-in_err-second_b-in-62 : goal.returns-in_err-second_b-in-62
-returns-in_err-second_b-in-62 t c =
-    let h = arrow_halves c.args.relation _ _ _ _ _ _ c.requires.0 c.requires.1 c.stripped-a.ensures.value c.stripped-b.ensures.value _ _ (sym c.if-not-marks_agree.ensures) c.if-kind-right.false c.in-62.is in
-    let n = related_none c.args.relation _ _ _ _ _ _ (sym c.in_err-second_b-in-62.was ∙ c.relate.ensures) c.plain-first_b.ensures c.plain-first_a.ensures in
-    c.from_residual.ensures ∙ stop _ _ _ h.answer n
+pub returns-in_ok-right_end-in-62 : goal.returns-in_ok-right_end-in-62
+returns-in_ok-right_end-in-62 t c =
+    let h = arrow_halves c.args.relation _ _ _ _ c.strip-left_marks.ensures c.strip-right_marks.ensures _ _ c.kind-kind.ensures c.kind.ensures c.if-not-marks_agree.ensures c.if-kind.false c.in-62.is in
+    let k = related_some c.args.relation _ _ _ _ _ _ c.next.ensures c.next-in-62.ensures _ _ (sym c.in_ok-right_end-in-62.was ∙ c.relate.ensures) in
+    c.relate-in-62.ensures ∙ h.both _ _ _ _ c.at.ensures c.at-in-62.ensures k.2 k.1 k.0
 
-pub returns-in_ok-second_b-in-62 : goal.returns-in_ok-second_b-in-62
-returns-in_ok-second_b-in-62 t c =
-    let h = arrow_halves c.args.relation _ _ _ _ _ _ c.requires.0 c.requires.1 c.stripped-a.ensures.value c.stripped-b.ensures.value _ _ (sym c.if-not-marks_agree.ensures) c.if-kind-right.false c.in-62.is in
-    let k = related_some c.args.relation _ _ _ _ _ _ _ _ (sym c.in_ok-second_b-in-62.was ∙ c.relate.ensures) c.plain-first_b.ensures c.plain-first_a.ensures in
-    c.relate-in-62.ensures ∙ moved c.args.relation _ _ _ _ _ _ (c.plain.ensures ∙ ap bare k.2) (c.plain-in-62.ensures ∙ ap bare k.1) ∙ go _ _ _ h.answer k.0
+pub next-requires-in-42 : goal.next-requires-in-42
+next-requires-in-42 t c =
+    (pair_halves c.args.relation _ _ _ _ c.strip-left_marks.ensures c.strip-right_marks.ensures _ _ c.kind-kind.ensures c.kind.ensures c.if-not-marks_agree.ensures c.if-kind.false c.in-42.is).left_first
 
-pub relate-requires-in-42 : goal.relate-requires-in-42
-relate-requires-in-42 t c =
-    let h = pair_halves c.args.relation _ _ _ _ _ _ c.requires.0 c.requires.1 c.stripped-a.ensures.value c.stripped-b.ensures.value _ _ (sym c.if-not-marks_agree.ensures) c.if-kind-right.false c.in-42.is in
-    let u = ap (λ (m : Marked). m.place) c.plain-first_a.ensures in
-    let v = ap (λ (m : Marked). m.place) c.plain-first_b.ensures in
-    (omega (arith, c.decreases, u, v), (placed_at _ _ _ _ c.requires.0 c.plain-first_a.ensures h.left_first, placed_at _ _ _ _ c.requires.1 c.plain-first_b.ensures h.right_first))
+pub next-requires-in-42-2 : goal.next-requires-in-42-2
+next-requires-in-42-2 t c =
+    (pair_halves c.args.relation _ _ _ _ c.strip-left_marks.ensures c.strip-right_marks.ensures _ _ c.kind-kind.ensures c.kind.ensures c.if-not-marks_agree.ensures c.if-kind.false c.in-42.is).right_first
+
+pub returns-in_err-left_end-in-42 : goal.returns-in_err-left_end-in-42
+returns-in_err-left_end-in-42 t c =
+    let n = related_none c.args.relation _ _ _ _ _ _ c.next-in-42.ensures c.next-in-42-2.ensures (sym c.in_err-left_end-in-42.was ∙ c.relate-in-42.ensures) in
+    c.from_residual-in_err-left_end-in-42.ensures ∙ (pair_halves c.args.relation _ _ _ _ c.strip-left_marks.ensures c.strip-right_marks.ensures _ _ c.kind-kind.ensures c.kind.ensures c.if-not-marks_agree.ensures c.if-kind.false c.in-42.is).none n
+
+pub at-requires-in-42 : goal.at-requires-in-42
+at-requires-in-42 t c =
+    let h = pair_halves c.args.relation _ _ _ _ c.strip-left_marks.ensures c.strip-right_marks.ensures _ _ c.kind-kind.ensures c.kind.ensures c.if-not-marks_agree.ensures c.if-kind.false c.in-42.is in
+    let k = related_some c.args.relation _ _ _ _ _ _ c.next-in-42.ensures c.next-in-42-2.ensures _ _ (sym c.in_ok-left_end-in-42.was ∙ c.relate-in-42.ensures) in
+    rw k.1 h.left_second
+
+pub at-requires-in-42-2 : goal.at-requires-in-42-2
+at-requires-in-42-2 t c =
+    let h = pair_halves c.args.relation _ _ _ _ c.strip-left_marks.ensures c.strip-right_marks.ensures _ _ c.kind-kind.ensures c.kind.ensures c.if-not-marks_agree.ensures c.if-kind.false c.in-42.is in
+    let k = related_some c.args.relation _ _ _ _ _ _ c.next-in-42.ensures c.next-in-42-2.ensures _ _ (sym c.in_ok-left_end-in-42.was ∙ c.relate-in-42.ensures) in
+    rw k.2 h.right_second
 
 pub relate-requires-in-42-2 : goal.relate-requires-in-42-2
 relate-requires-in-42-2 t c =
-    let h = pair_halves c.args.relation _ _ _ _ _ _ c.requires.0 c.requires.1 c.stripped-a.ensures.value c.stripped-b.ensures.value _ _ (sym c.if-not-marks_agree.ensures) c.if-kind-right.false c.in-42.is in
-    let k = related_some c.args.relation _ _ _ _ _ _ _ _ (sym c.in_ok-second_a-in-42.was ∙ c.relate-in-42.ensures) c.plain-first_a.ensures c.plain-first_b.ensures in
-    let u = ap (λ (m : Marked). m.place) c.plain-in-42.ensures in
-    let v = ap (λ (m : Marked). m.place) c.plain-in-42-2.ensures in
-    (omega (arith, c.decreases, u, v, k.1, k.2), (placed_at _ _ _ _ c.requires.0 c.plain-in-42.ensures (rw k.1 h.left_second), placed_at _ _ _ _ c.requires.1 c.plain-in-42-2.ensures (rw k.2 h.right_second)))
+    let k = related_some c.args.relation _ _ _ _ _ _ c.next-in-42.ensures c.next-in-42-2.ensures _ _ (sym c.in_ok-left_end-in-42.was ∙ c.relate-in-42.ensures) in
+    (omega (arith, c.decreases, (stands _ _ _ c.at-in-42.ensures).cells, (stands _ _ _ c.at-in-42-2.ensures).cells, (strips _ _ c.strip-left_marks.ensures).on, (strips _ _ c.strip-right_marks.ensures).on, k.1, k.2, c.strip-left_marks.result.1.placed.within), tt)
 
-pub returns-in_err-second_a-in-42 : goal.returns-in_err-second_a-in-42
-returns-in_err-second_a-in-42 t c =
-    let h = pair_halves c.args.relation _ _ _ _ _ _ c.requires.0 c.requires.1 c.stripped-a.ensures.value c.stripped-b.ensures.value _ _ (sym c.if-not-marks_agree.ensures) c.if-kind-right.false c.in-42.is in
-    let n = related_none c.args.relation _ _ _ _ _ _ (sym c.in_err-second_a-in-42.was ∙ c.relate-in-42.ensures) c.plain-first_a.ensures c.plain-first_b.ensures in
-    c.from_residual-in_err-second_a-in-42.ensures ∙ stop _ _ _ h.answer n
-
-pub returns-in_ok-second_a-in-42 : goal.returns-in_ok-second_a-in-42
-returns-in_ok-second_a-in-42 t c =
-    let h = pair_halves c.args.relation _ _ _ _ _ _ c.requires.0 c.requires.1 c.stripped-a.ensures.value c.stripped-b.ensures.value _ _ (sym c.if-not-marks_agree.ensures) c.if-kind-right.false c.in-42.is in
-    let k = related_some c.args.relation _ _ _ _ _ _ _ _ (sym c.in_ok-second_a-in-42.was ∙ c.relate-in-42.ensures) c.plain-first_a.ensures c.plain-first_b.ensures in
-    c.relate-in-42-2.ensures ∙ moved c.args.relation _ _ _ _ _ _ (c.plain-in-42.ensures ∙ ap bare k.1) (c.plain-in-42-2.ensures ∙ ap bare k.2) ∙ go _ _ _ h.answer k.0
+pub returns-in_ok-left_end-in-42 : goal.returns-in_ok-left_end-in-42
+returns-in_ok-left_end-in-42 t c =
+    let h = pair_halves c.args.relation _ _ _ _ c.strip-left_marks.ensures c.strip-right_marks.ensures _ _ c.kind-kind.ensures c.kind.ensures c.if-not-marks_agree.ensures c.if-kind.false c.in-42.is in
+    let k = related_some c.args.relation _ _ _ _ _ _ c.next-in-42.ensures c.next-in-42-2.ensures _ _ (sym c.in_ok-left_end-in-42.was ∙ c.relate-in-42.ensures) in
+    c.relate-in-42-2.ensures ∙ h.both _ _ _ _ c.at-in-42.ensures c.at-in-42-2.ensures k.1 k.2 k.0

@@ -1,5 +1,6 @@
-use Rattle.std.proofs.Common.{◌+◌, ◌-◌, length}
+use Rattle.std.proofs.Common.{◌+◌}
+use Rattle.subtyping.proofs.Places.{room}
 use Rattle.subtyping.proofs.relating.+relate.Given as goal
 
 abbrev pub decreases-relate : goal.decreases-relate
-decreases-relate l = (length l.left.now - l.a.place) + (length l.right.now - l.b.place)
+decreases-relate l = room l.left + room l.right
