@@ -6,37 +6,35 @@ use Rattle.calculus.specs.Reduction.{Value, Effect, Reduces}
 use Rattle.finder.specs.Due.{Due}
 use Rattle.finder.specs.Finding.{answer, told}
 use Rattle.finder.specs.Laws.{Means, SearchIsReduction}
-use Rattle.finder.specs.Search.{found}
+use Rattle.finder.specs.Search.{Found, found}
 use Rattle.finder.specs.Steps.{step_rule, step_cell}
 use Rattle.finder.specs.declared.works.Rule.{Rule}
-use Rattle.finder.specs.declared.works.Work.{Work}
-use Rattle.finder.specs.declared.works.Work.TheVariants.{Done, Redex, Stuck}
 use Rattle.finder.specs.declared.works.FindFault.TheVariants.{NoRule}
 use Rattle.finder.proofs.Asking.{asks}
 use Rattle.finder.proofs.Meaning.{as_many, claims, meant, passes, answered, answered_passes}
 use Rattle.finder.proofs.Places.{redex, stands, due_within}
-use Rattle.finder.proofs.Search.{Rests, Right, right, due_found, step_found, value_found}
+use Rattle.finder.proofs.Search.{due, same_due, Rests, Right, right, due_found, step_found, value_found}
 
--- an answer tells the work that it is of
-told_done : (w : Work) → told w ≡ Ok None → w ≡ Done
-told_done Done e = refl
-told_done (Redex r k) e = let z : ◌≡◌ {A = ℕ} 0 1 = cc in absurd (omega arith)
-told_done (Stuck k) e = let z : ◌≡◌ {A = ℕ} 0 1 = cc in absurd (omega arith)
+-- an answer tells what it is the answer for
+told_value : (w : Found) → told w ≡ Ok None → w ≡ None
+told_value None e = refl
+told_value (Some (k, Some r)) e = cc
+told_value (Some (k, None)) e = cc
 
-told_redex : (w : Work) (r : Rule) (k : ℕ) → told w ≡ Ok (Some (r, k)) → w ≡ Redex r k
-told_redex Done r k e = let z : ◌≡◌ {A = ℕ} 0 1 = cc in absurd (omega arith)
-told_redex (Redex s j) r k e = let p : ◌≡◌ {A = Rule × ℕ} (s, j) (r, k) = cc in ap (λ t. Redex t.0 t.1) p
-told_redex (Stuck j) r k e = let z : ◌≡◌ {A = ℕ} 0 1 = cc in absurd (omega arith)
+told_rule : (w : Found) (r : Rule) (k : ℕ) → told w ≡ Ok (Some (r, k)) → w ≡ due k (Some r)
+told_rule None r k e = cc
+told_rule (Some (j, Some s)) r k e = let p : ◌≡◌ {A = Rule × ℕ} (s, j) (r, k) = cc in ap (λ t. due t.1 (Some t.0)) p
+told_rule (Some (j, None)) r k e = cc
 
-told_stuck : (w : Work) (k : ℕ) → told w ≡ Err (NoRule k) → w ≡ Stuck k
-told_stuck Done k e = let z : ◌≡◌ {A = ℕ} 0 1 = cc in absurd (omega arith)
-told_stuck (Redex r j) k e = let z : ◌≡◌ {A = ℕ} 0 1 = cc in absurd (omega arith)
-told_stuck (Stuck j) k e = cc
+told_stuck : (w : Found) (k : ℕ) → told w ≡ Err (NoRule k) → w ≡ due k None
+told_stuck None k e = cc
+told_stuck (Some (j, Some r)) k e = cc
+told_stuck (Some (j, None)) k e = let p : j ≡ k = cc in ap (λ i. due i None) p
 
 module _ (cs : List TermCell) (m : Running) (h : Means cs m) where
   is_value : (answer cs ≡ Ok None) ↔ Value m
   is_value = (
-    λ e. subst (Right m 0) (told_done (found 0 m) (sym (answered cs m h) ∙ e)) (right m 0),
+    λ e. subst (Right m 0) (told_value (found 0 m) (sym (answered cs m h) ∙ e)) (right m 0),
     λ v. answered cs m h ∙ ap told (value_found v 0),
   )
 
@@ -45,7 +43,7 @@ module _ (cs : List TermCell) (m : Running) (h : Means cs m) where
     where
       there : answer cs ≡ Ok (Some (r, k)) → (e : Effect) × (n : Running) × (d : Reduces m e n) × (step_rule d ≡ r) × (step_cell d ≡ k)
       there f =
-          let (e, n, d, p, q) = subst (Right m 0) (told_redex (found 0 m) r k (sym (answered cs m h) ∙ f)) (right m 0) in
+          let (e, n, d, p, q) = subst (Right m 0) (told_rule (found 0 m) r k (sym (answered cs m h) ∙ f)) (right m 0) in
           (e, n, d, p, omega arith)
 
       back : (e : Effect) × (n : Running) × (d : Reduces m e n) × (step_rule d ≡ r) × (step_cell d ≡ k) → answer cs ≡ Ok (Some (r, k))
@@ -79,17 +77,15 @@ module _ (cs : List TermCell) (m : Running) (h : Means cs m) where
           no_step : Rests m
           no_step e n d = let g = (is_step (step_rule d) (step_cell d)).1 (e, n, d, refl, refl) in let z : ◌≡◌ {A = ℕ} 0 1 = cc in omega arith
 
-      back : (w : Work) → found 0 m ≡ w → (Value m → ⊥) × Rests m → (k : ℕ) × (answer cs ≡ Err (NoRule k))
-      back Done p (f, g) = absurd (f (is_value.0 (answered cs m h ∙ ap told p)))
-      back (Redex r k) p (f, g) = let (e, n, d, q, t) = (is_step r k).0 (answered cs m h ∙ ap told p) in absurd (g e n d)
-      back (Stuck k) p (f, g) = (k, answered cs m h ∙ ap told p)
+      back : (w : Found) → found 0 m ≡ w → (Value m → ⊥) × Rests m → (k : ℕ) × (answer cs ≡ Err (NoRule k))
+      back None p (f, g) = absurd (f (is_value.0 (answered cs m h ∙ ap told p)))
+      back (Some (k, Some r)) p (f, g) = let (e, n, d, q, t) = (is_step r k).0 (answered cs m h ∙ ap told p) in absurd (g e n d)
+      back (Some (k, None)) p (f, g) = (k, answered cs m h ∙ ap told p)
 
 one : (m n n' : Running) (e e' : Effect) (d : Reduces m e n) (d' : Reduces m e' n') → (step_rule d ≡ step_rule d') × (step_cell d ≡ step_cell d')
 one m n n' e e' d d' =
-    let f = sym (step_found d 0) ∙ step_found d' 0 in
-    let p : step_rule d ≡ step_rule d' = cc in
-    let q : 0 + step_cell d ≡ 0 + step_cell d' = cc in
-    (p, omega arith)
+    let (q, p) = same_due (sym (step_found d 0) ∙ step_found d' 0) in
+    (cc, omega arith)
 
 within : (cs : List TermCell) (r : Rule) (k : ℕ) → answer cs ≡ Ok (Some (r, k)) → k < length cs
 within cs r k f =

@@ -1,18 +1,33 @@
--- The steps of the comparison of ops with a word.
-use Rattle.std.proofs.Common.{◌≡◌, ℕ, ◌+◌, ◌<◌, ◌≤◌, true, false, ◌&&◌, eqb, List, ◌∷◌, length, get_or, drop, sym, ap, ◌∙◌}
-use Rattle.std.proofs.lemmas.List.{at_drop_more, at_drop_all}
+-- The comparison of ops with a word.
+use Rattle.std.proofs.Common.{◌≡◌, ℕ, ◌+◌, ◌-◌, ◌<◌, ◌≤◌, ◌⊎◌, true, false, Bool, ◌&&◌, eqb, List, [], ◌∷◌, length, drop, Option, Some, None, sym, refl, ap, ◌∙◌, Bor, arith}
+use Rattle.std.proofs.lemmas.List.{drop_all, take_all, length-drop}
+use Rattle.std.specs.List.{zip, list_all, slice_range}
+use Rattle.std.specs.Option.{MatchOption, UnwrapsOrElse}
 use Rattle.calculus.specs.declared.cells.TermCell.{TermCell}
 use Rattle.finder.specs.Words.{spelt}
 
-pub spelt_all : (ws : List ℕ) (i : ℕ) (cs : List TermCell) → length ws ≤ i → spelt (drop i ws) cs ≡ true
-spelt_all ws i cs l = at_drop_all (λ vs. spelt vs cs) ws i l
+-- an op and the letter that is to be there
+abbrev pub is_letter : TermCell × ℕ → Bool
+is_letter p = eqb p.0.op p.1
 
-pub spelt_past : (ws : List ℕ) (i : ℕ) (cs : List TermCell) (at w : ℕ) → i < length ws → length cs ≤ at → spelt (drop i ws) (drop at cs) ≡ false
-spelt_past ws i cs at w l p = at_drop_more (λ vs. spelt vs (drop at cs)) ws i w l ∙ at_drop_all (λ ds. spelt (get_or ws i w ∷ drop (i + 1) ws) ds) cs at p
+pub spelt_zipped : (ws : List ℕ) (cs : List TermCell) → length ws ≤ length cs → list_all is_letter (zip cs ws) ≡ spelt ws cs
+spelt_zipped [] [] l = refl
+spelt_zipped [] (c ∷ cs) l = refl
+spelt_zipped (w ∷ ws) [] l = absurd (omega arith)
+spelt_zipped (w ∷ ws) (c ∷ cs) l = ap (λ b. eqb c.op w && b) (spelt_zipped ws cs (omega arith))
 
-pub spelt_step : (ws : List ℕ) (i : ℕ) (cs : List TermCell) (at w : ℕ) (d : TermCell) → i < length ws → at < length cs → w ≡ get_or ws i w
-    → spelt (drop i ws) (drop at cs) ≡ (eqb (get_or cs at d).op w && spelt (drop (i + 1) ws) (drop (at + 1) cs))
-spelt_step ws i cs at w d l p e =
-    at_drop_more (λ vs. spelt vs (drop at cs)) ws i w l
-    ∙ at_drop_more (λ ds. spelt (get_or ws i w ∷ drop (i + 1) ws) ds) cs at d p
-    ∙ ap (λ v. eqb (get_or cs at d).op v && spelt (drop (i + 1) ws) (drop (at + 1) cs)) (sym e)
+pub spelt_short : (ws : List ℕ) (cs : List TermCell) → length cs < length ws → spelt ws cs ≡ false
+spelt_short [] cs l = absurd (omega arith)
+spelt_short (w ∷ ws) [] l = refl
+spelt_short (w ∷ ws) (c ∷ cs) l = ap (λ b. eqb c.op w && b) (spelt_short ws cs (omega arith)) ∙ and_false (eqb c.op w)
+  where
+    and_false : (b : Bool) → (b && false) ≡ false
+    and_false true = refl
+    and_false false = refl
+
+-- the cells from a place on, none where the place is past the end
+pub rest_is : (cs : List TermCell) (at : ℕ) (r : Option (Bor (List TermCell))) (d : Bor (List TermCell) → Type 0) (x : Bor (List TermCell))
+    → MatchOption r ((length cs < at) ⊎ (length cs < length cs)) (λ y. (at ≤ length cs) × (length cs ≤ length cs) × (y.now ≡ slice_range cs at (length cs)) × (length y.now + at ≡ length cs))
+    → ((y : Bor (List TermCell)) → d y → y.now ≡ []) → UnwrapsOrElse r d x → x.now ≡ drop at cs
+rest_is cs at None d x m e u = e x u ∙ sym (drop_all at cs (omega arith))
+rest_is cs at (Some y) d x (p, q, s, t) e u = ap (λ z. z.now) u ∙ s ∙ take_all (length cs - at) (drop at cs) (omega (arith, length-drop at cs))

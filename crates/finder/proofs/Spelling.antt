@@ -1,6 +1,7 @@
 -- What the first cells of a term tell of it.
 use Rattle.std.proofs.Common.{◌≡◌, ℕ, Bool, true, false, ◌&&◌, ◌||◌, List, [], ◌∷◌, ◌++◌, get_or, refl, ap, ◌∙◌}
 use Rattle.std.proofs.lemmas.List.{append_assoc}
+use Rattle.std.specs.Bool.{then_some}
 use Rattle.calculus.specs.declared.cells.TermCell.{TermCell}
 use Rattle.calculus.specs.declared.gates.Gate.{Gate}
 use Rattle.calculus.specs.declared.gates.Gate.TheVariants.{H, X, Z, S, T, Cnot, Swap, Toffoli}
@@ -8,7 +9,7 @@ use Rattle.calculus.specs.Gates.{number_of}
 use Rattle.calculus.specs.Terms.{bit_of, meas, new, gate, bound, held, Term, var, const, star, lam, app, pair, if_then_else, let_pair, Running, erased}
 use Rattle.calculus.specs.Cells.{placed_cells}
 use Rattle.finder.specs.Finding.{blank}
-use Rattle.finder.specs.Search.{is_bit, is_qubit, is_pair_of, takes, given, applied, branched, opened}
+use Rattle.finder.specs.Search.{is_bit, is_qubit, is_pair_of, takes, applied, branched, opened}
 use Rattle.finder.specs.Words.{spelt, operand_word, applied_of, branched_of, opened_of}
 use Rattle.finder.specs.declared.works.Rule.TheVariants.{Prepare, Read, Gates}
 
@@ -98,9 +99,9 @@ applied_cells (var c (bound i)) x fs xs = refl
 applied_cells (var c (held h)) x fs xs = refl
 applied_cells (const c (bit_of false)) x fs xs = refl
 applied_cells (const c (bit_of true)) x fs xs = refl
-applied_cells (const c meas) x fs xs = ap (λ b. given b Read) (one_spelt x xs)
-applied_cells (const c new) x fs xs = ap (λ b. given b Prepare) (spelt_bit x xs)
-applied_cells (const c (gate u)) x fs xs = ap (λ b. given b Gates) (spelt_operands u x xs)
+applied_cells (const c meas) x fs xs = ap (λ b. then_some b Read) (one_spelt x xs)
+applied_cells (const c new) x fs xs = ap (λ b. then_some b Prepare) (spelt_bit x xs)
+applied_cells (const c (gate u)) x fs xs = ap (λ b. then_some b Gates) (spelt_operands u x xs)
 applied_cells (star c) x fs xs = refl
 applied_cells (lam c m) x fs xs = refl
 applied_cells (app c m n) x fs xs = refl

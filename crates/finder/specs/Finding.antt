@@ -6,10 +6,8 @@ use Rattle.calculus.specs.Letters.{allowed, arity}
 use Rattle.calculus.specs.Terms.{erased}
 use Rattle.calculus.specs.Reading.{term_at}
 use Rattle.calculus.specs.declared.cells.TermCell.{TermCell}
-use Rattle.finder.specs.Search.{found}
+use Rattle.finder.specs.Search.{Found, found}
 use Rattle.finder.specs.declared.works.Rule.{Rule}
-use Rattle.finder.specs.declared.works.Work.{Work}
-use Rattle.finder.specs.declared.works.Work.TheVariants.{Done, Redex, Stuck}
 use Rattle.finder.specs.declared.works.FindFault.{FindFault}
 use Rattle.finder.specs.declared.works.FindFault.TheVariants.{TooManyCells, BadCell, NotWhole, NoRule}
 
@@ -38,10 +36,10 @@ abbrev pub tested : List TermCell → Result (Unit {0}) FindFault
 tested cs = cond (nat_lt 1024 (length cs)) (Err (TooManyCells 1024)) (past_letters cs (first_failing allowed cs 0))
 
 -- the answer for a term that waits for this
-abbrev pub told : Work → Result (Option (Rule × ℕ)) FindFault
-told Done = Ok None
-told (Redex r k) = Ok (Some (r, k))
-told (Stuck k) = Err (NoRule k)
+abbrev pub told : Found → Result (Option (Rule × ℕ)) FindFault
+told None = Ok None
+told (Some (k, Some r)) = Ok (Some (r, k))
+told (Some (k, None)) = Err (NoRule k)
 
 abbrev pub past_tests : List TermCell → Result (Unit {0}) FindFault → Result (Option (Rule × ℕ)) FindFault
 past_tests cs (Ok u) = told (found 0 (erased (term_at cs 0)))

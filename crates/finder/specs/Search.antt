@@ -1,13 +1,13 @@
 -- The search of a running term for the next step: an application works its argument first and then its function,
 -- a pair its left and then its right, a let its pair, a condition its test.
-use Rattle.std.specs.Prelude.{ℕ, ◌+◌, Bool, true, false, cond, ◌&&◌, Some, None, Option}
+use Rattle.std.specs.Prelude.{ℕ, ◌+◌, Bool, true, false, ◌&&◌, Some, None, Option}
+use Rattle.std.specs.Bool.{then_some}
+use Rattle.std.specs.Option.{option_or}
 use Rattle.calculus.specs.declared.gates.Gate.{Gate}
 use Rattle.calculus.specs.declared.gates.Gate.TheVariants.{H, X, Z, S, T, Cnot, Swap, Toffoli}
 use Rattle.calculus.specs.Terms.{bit_of, meas, new, gate, bound, held, var, const, star, lam, app, pair, if_then_else, let_pair, size, Running}
 use Rattle.finder.specs.declared.works.Rule.{Rule}
 use Rattle.finder.specs.declared.works.Rule.TheVariants.{Function, Pair, Then, Else, Prepare, Read, Gates}
-use Rattle.finder.specs.declared.works.Work.{Work}
-use Rattle.finder.specs.declared.works.Work.TheVariants.{Done, Redex, Stuck}
 
 abbrev pub is_bit : Running → Bool
 is_bit (var c x) = false
@@ -55,16 +55,13 @@ takes Cnot m = is_pair_of is_qubit is_qubit m
 takes Swap m = is_pair_of is_qubit is_qubit m
 takes Toffoli m = is_pair_of is_qubit (is_pair_of is_qubit is_qubit) m
 
-abbrev pub given : Bool → Rule → Option Rule
-given b r = cond b (Some r) None
-
 -- the rule for a value applied to a value
 abbrev pub applied : Running → Running → Option Rule
 applied (var c x) n = None
 applied (const c (bit_of b)) n = None
-applied (const c meas) n = given (is_qubit n) Read
-applied (const c new) n = given (is_bit n) Prepare
-applied (const c (gate u)) n = given (takes u n) Gates
+applied (const c meas) n = then_some (is_qubit n) Read
+applied (const c new) n = then_some (is_bit n) Prepare
+applied (const c (gate u)) n = then_some (takes u n) Gates
 applied (star c) n = None
 applied (lam c m) n = Some Function
 applied (app c m p) n = None
@@ -98,24 +95,17 @@ opened (pair c m n) = Some Pair
 opened (if_then_else c p m n) = None
 opened (let_pair c m n) = None
 
--- what a cell whose worked parts are values waits for
-abbrev pub ruled : ℕ → Option Rule → Work
-ruled at None = Stuck at
-ruled at (Some r) = Redex r at
-
--- the first of two works, unless it is done
-abbrev pub first : Work → Work → Work
-first Done w = w
-first (Redex r k) w = Redex r k
-first (Stuck k) w = Stuck k
+-- What a term waits for: nothing where it is a value, and else the cell that is due, with the rule that applies there, if one does.
+abbrev pub Found : Type 0
+Found = Option (ℕ × Option Rule)
 
 -- what the term whose first cell is at the place waits for
-abbrev pub found : ℕ → Running → Work
-found at (var c x) = Done
-found at (const c k) = Done
-found at (star c) = Done
-found at (lam c m) = Done
-found at (app c m n) = first (found (at + 1 + size m) n) (first (found (at + 1) m) (ruled at (applied m n)))
-found at (pair c m n) = first (found (at + 1) m) (found (at + 1 + size m) n)
-found at (if_then_else c p m n) = first (found (at + 1) p) (ruled at (branched p))
-found at (let_pair c m n) = first (found (at + 1) m) (ruled at (opened m))
+abbrev pub found : ℕ → Running → Found
+found at (var c x) = None
+found at (const c k) = None
+found at (star c) = None
+found at (lam c m) = None
+found at (app c m n) = option_or (found (at + 1 + size m) n) (option_or (found (at + 1) m) (Some (at, applied m n)))
+found at (pair c m n) = option_or (found (at + 1) m) (found (at + 1 + size m) n)
+found at (if_then_else c p m n) = option_or (found (at + 1) p) (Some (at, branched p))
+found at (let_pair c m n) = option_or (found (at + 1) m) (Some (at, opened m))

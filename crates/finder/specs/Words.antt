@@ -1,7 +1,7 @@
 -- The rules by the first cells of values, which tell as much as the terms that the cells mean.
 use Rattle.std.specs.Prelude.{ℕ, Bool, true, false, cond, ◌&&◌, ◌||◌, List, [], ◌∷◌, Some, None, Option, ◌==◌}
+use Rattle.std.specs.Bool.{then_some}
 use Rattle.calculus.specs.declared.cells.TermCell.{TermCell}
-use Rattle.finder.specs.Search.{given}
 use Rattle.finder.specs.declared.works.Rule.{Rule}
 use Rattle.finder.specs.declared.works.Rule.TheVariants.{Function, Pair, Then, Else, Prepare, Read, Gates}
 
@@ -23,9 +23,9 @@ operand_word u =
 abbrev pub applied_of : ℕ → ℕ → List TermCell → Option Rule
 applied_of op i cs =
     cond (op == 108) (Some Function)
-    (cond (op == 110) (given (spelt (48 ∷ []) cs || spelt (49 ∷ []) cs) Prepare)
-    (cond (op == 109) (given (spelt (113 ∷ []) cs) Read)
-    (cond (op == 103) (given (spelt (operand_word i) cs) Gates) None)))
+    (cond (op == 110) (then_some (spelt (48 ∷ []) cs || spelt (49 ∷ []) cs) Prepare)
+    (cond (op == 109) (then_some (spelt (113 ∷ []) cs) Read)
+    (cond (op == 103) (then_some (spelt (operand_word i) cs) Gates) None)))
 
 -- the rule for a condition that is a value with the letter
 abbrev pub branched_of : ℕ → Option Rule
@@ -33,4 +33,4 @@ branched_of op = cond (op == 48) (Some Else) (cond (op == 49) (Some Then) None)
 
 -- the rule for a let of a value with the letter
 abbrev pub opened_of : ℕ → Option Rule
-opened_of op = given (op == 112) Pair
+opened_of op = then_some (op == 112) Pair

@@ -1,54 +1,37 @@
 //! Finds the rule that applies to a running term, and the cell it applies at.
 
 ghost use Rattle.std.specs.Prelude.{◌≡◌, ◌+◌, ◌<◌, ◌≤◌, length, drop, slice_index_or};
-ghost use Rattle.calculus.specs.Letters.{allowed, arity};
+ghost use Rattle.calculus.specs.Letters.{arity};
 ghost use Rattle.calculus.specs.Reading.{term_at, TermsStand};
 ghost use Rattle.calculus.specs.Terms.{size, erased};
 ghost use Rattle.trees.specs.Reach.{ends};
 ghost use Rattle.finder.specs.Finding.{blank, end_or, tested, answer};
-ghost use Rattle.finder.specs.Search.{given, found};
+ghost use Rattle.finder.specs.Search.{found};
 ghost use Rattle.finder.specs.Words.{spelt, operand_word, applied_of, branched_of, opened_of};
 
-use crate::works::{FindFault, Rule, Work};
-use calculus::{MOST_RUNNING_CELLS, TermCell, is_allowed};
-use trees::{Test, first_failing, reach};
+use crate::works::{FindFault, Rule};
+use calculus::{Gate, MOST_RUNNING_CELLS, TermCell, is_allowed};
+use trees::{first_failing, reach};
 
 // Whether the ops from `at` on begin with the letters of a word.
 fn spells(cells: &[TermCell], at: usize, word: &[char]) -> bool
     ensures { result ≡ spelt word.now (drop at cells.now) }
 {
-    let mut next = at;
-    for letter in word {
-        if next >= cells.len() {
-            return false;
-        }
-        if cells[next].op != *letter {
-            return false;
-        }
-        next += 1;
-    }
-    true
-}
-
-// The test of a known op with an argument that it allows.
-#[derive(Drop)]
-struct Allowed;
-
-impl Test<TermCell> for Allowed {
-    ghost holds = { λ _. allowed };
-
-    fn passes(&self, cell: TermCell) -> bool {
-        is_allowed(cell)
-    }
+    let rest = cells.get(at..).unwrap_or_default();
+    word.len() <= rest.len()
+        && rest
+            .iter()
+            .zip(word)
+            .all(|(cell, letter)| cell.op == *letter)
 }
 
 // Whether the tree at `at` is as many qubits as the gate of a number takes.
 fn are_operands(cells: &[TermCell], gate: u16, at: usize) -> bool
     ensures { result ≡ spelt (operand_word gate) (drop at cells.now) }
 {
-    match gate {
-        5 | 6 => spells(cells, at, &['p', 'q', 'q']),
-        7 => spells(cells, at, &['p', 'q', 'p', 'q', 'q']),
+    match Gate::try_from(gate) {
+        Ok(Gate::Cnot | Gate::Swap) => spells(cells, at, &['p', 'q', 'q']),
+        Ok(Gate::Toffoli) => spells(cells, at, &['p', 'q', 'p', 'q', 'q']),
         _ => spells(cells, at, &['q']),
     }
 }
@@ -57,21 +40,7 @@ fn are_operands(cells: &[TermCell], gate: u16, at: usize) -> bool
 fn cell_at(cells: &[TermCell], at: usize) -> TermCell
     ensures { result ≡ slice_index_or cells.now at blank }
 {
-    if at < cells.len() {
-        cells[at]
-    } else {
-        TermCell {
-            op: '\0',
-            argument: 0,
-            claim: 0,
-        }
-    }
-}
-
-fn given(fits: bool, rule: Rule) -> Option<Rule>
-    ensures { result ≡ given fits rule }
-{
-    if fits { Some(rule) } else { None }
+    cells.get(at).copied().unwrap_or_default()
 }
 
 // The rule for a value, by its first cell, applied to the value at `argument`.
@@ -80,15 +49,11 @@ fn applied(function: TermCell, cells: &[TermCell], argument: usize) -> Option<Ru
 {
     match function.op {
         'l' => Some(Rule::Function),
-        'n' => given(
-            spells(cells, argument, &['0']) || spells(cells, argument, &['1']),
+        'n' => (spells(cells, argument, &['0']) || spells(cells, argument, &['1'])).then_some(
             Rule::Prepare,
         ),
-        'm' => given(spells(cells, argument, &['q']), Rule::Read),
-        'g' => given(
-            are_operands(cells, function.argument, argument),
-            Rule::Gates,
-        ),
+        'm' => spells(cells, argument, &['q']).then_some(Rule::Read),
+        'g' => are_operands(cells, function.argument, argument).then_some(Rule::Gates),
         _ => None,
     }
 }
@@ -108,7 +73,7 @@ fn branched(condition: TermCell) -> Option<Rule>
 fn opened(pair: TermCell) -> Option<Rule>
     ensures { result ≡ opened_of pair.op }
 {
-    given(pair.op == 'p', Rule::Pair)
+    (pair.op == 'p').then_some(Rule::Pair)
 }
 
 /// One past the tree at `at`, or `at` itself where none stands there.
@@ -116,25 +81,25 @@ pub fn past(cells: &[TermCell], at: usize) -> usize
     ensures end { result ≡ end_or at (ends arity 1 (drop at cells.now) at) }
     ensures on { at ≤ result }
 {
-    match reach(cells, at) {
-        Some(end) => end,
-        None => at,
-    }
+    reach(cells, at).unwrap_or(at)
 }
 
-// One past the tree at `at`, and what it waits for.
-fn work(cells: &[TermCell], at: usize) -> (usize, Work)
+// One past the tree at `at`, and what it waits for: nothing where it is a value, and else the cell that is due, with the rule that
+// applies there, if one does.
+fn work(cells: &[TermCell], at: usize) -> (usize, Option<(usize, Option<Rule>)>)
     requires { TermsStand cells.now × (at < length cells.now) }
     ensures { result ≡ (at + size (term_at cells.now at), found at (erased (term_at cells.now at))) }
 {
     let part = cell_at(cells, at + 1);
     match cells[at].op {
-        'l' => (past(cells, at), Work::Done),
+        'l' => (past(cells, at), None),
         'a' => {
             let (middle, function) = work(cells, at + 1);
             let (end, argument) = work(cells, middle);
-            let rule = applied(part, cells, middle);
-            (end, argument.or(function.or(Work::ruled(at, rule))))
+            let due = argument
+                .or(function)
+                .or_else(|| Some((at, applied(part, cells, middle))));
+            (end, due)
         }
         'p' => {
             let (middle, left) = work(cells, at + 1);
@@ -143,14 +108,15 @@ fn work(cells: &[TermCell], at: usize) -> (usize, Work)
         }
         'd' => {
             let (middle, pair) = work(cells, at + 1);
-            (past(cells, middle), pair.or(Work::ruled(at, opened(part))))
+            let end = past(cells, middle);
+            (end, pair.or_else(|| Some((at, opened(part)))))
         }
         'i' => {
             let (middle, condition) = work(cells, at + 1);
             let end = past(cells, past(cells, middle));
-            (end, condition.or(Work::ruled(at, branched(part))))
+            (end, condition.or_else(|| Some((at, branched(part)))))
         }
-        _ => (at + 1, Work::Done),
+        _ => (at + 1, None),
     }
 }
 
@@ -161,12 +127,10 @@ fn test_cells(cells: &[TermCell]) -> Result<(), FindFault>
     if cells.len() > MOST_RUNNING_CELLS {
         return Err(FindFault::TooManyCells(MOST_RUNNING_CELLS));
     }
-    if let Some(cell) = first_failing(&Allowed, cells) {
+    if let Some(cell) = first_failing(cells, |cell| is_allowed(cell)) {
         return Err(FindFault::BadCell(cell));
     }
-    let Some(end) = reach(cells, 0) else {
-        return Err(FindFault::NotWhole(0));
-    };
+    let end = reach(cells, 0).ok_or(FindFault::NotWhole(0))?;
     if end < cells.len() {
         return Err(FindFault::NotWhole(end));
     }
@@ -178,6 +142,9 @@ pub fn find(cells: &[TermCell]) -> Result<Option<(Rule, usize)>, FindFault>
     ensures { result ≡ answer cells.now }
 {
     test_cells(cells)?;
-    let (_, found) = work(cells, 0);
-    found.told()
+    let (_, Some((cell, rule))) = work(cells, 0) else {
+        return Ok(None);
+    };
+    let rule = rule.ok_or(FindFault::NoRule(cell))?;
+    Ok(Some((rule, cell)))
 }

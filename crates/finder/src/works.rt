@@ -1,8 +1,7 @@
-//! What a running term waits for, and why none may be found.
+//! The rules of a running term, and why none may be found.
 
 ghost use Rattle.std.specs.Prelude.{◌≡◌};
-ghost use Rattle.finder.specs.Finding.{told, fault_number, fault_cell};
-ghost use Rattle.finder.specs.Search.{first, ruled};
+ghost use Rattle.finder.specs.Finding.{fault_number, fault_cell};
 
 /// The rules by which a step is made.
 #[derive(Clone, Copy, PartialEq, Eq, Debug, Drop)]
@@ -21,48 +20,6 @@ pub enum Rule {
     Read,
     /// A gate gets its qubits.
     Gates,
-}
-
-/// Whether a tree is a value, or a rule applies at a cell of it, or none does at the cell where one is due.
-#[derive(Clone, Copy, Drop)]
-pub enum Work {
-    Done,
-    Redex(Rule, usize),
-    Stuck(usize),
-}
-
-impl Work {
-    /// This work, or the next one where this is done.
-    pub fn or(self, next: Work) -> Work
-        ensures { result ≡ first self next }
-    {
-        match self {
-            Work::Done => next,
-            Work::Redex(rule, cell) => Work::Redex(rule, cell),
-            Work::Stuck(cell) => Work::Stuck(cell),
-        }
-    }
-
-    /// The finder's answer from this work.
-    pub fn told(self) -> Result<Option<(Rule, usize)>, FindFault>
-        ensures { result ≡ told self }
-    {
-        match self {
-            Work::Done => Ok(None),
-            Work::Redex(rule, cell) => Ok(Some((rule, cell))),
-            Work::Stuck(cell) => Err(FindFault::NoRule(cell)),
-        }
-    }
-
-    /// What a cell whose worked parts are values waits for.
-    pub fn ruled(at: usize, rule: Option<Rule>) -> Work
-        ensures { result ≡ ruled at rule }
-    {
-        match rule {
-            Some(rule) => Work::Redex(rule, at),
-            None => Work::Stuck(at),
-        }
-    }
 }
 
 /// Why no rule is found, with the cell at fault.

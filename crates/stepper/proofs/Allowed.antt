@@ -1,7 +1,8 @@
 -- The cells of the next term are allowed.
 use Rattle.std.proofs.Common.{◌≡◌, ℕ, zero, suc, ◌+◌, ◌-◌, ◌<◌, ◌≤◌, Bool, true, false, cond, ◌&&◌, T, eqb, ltb, List, [], ◌∷◌, ◌++◌, take, drop, sym, refl, ap, subst, ◌∙◌, arith}
+use Rattle.std.proofs.lemmas.List.{take-append-drop}
 use Rattle.std.proofs.lemmas.Bool.{lt-ltb, ltb-true, ltb-false, eqb-true}
-use Rattle.calculus.specs.Letters.{letter, arguments_of, allowed, arity}
+use Rattle.calculus.specs.Letters.{letter, arguments_of, allowed}
 use Rattle.calculus.specs.Reading.{every}
 use Rattle.calculus.specs.declared.cells.TermCell.{TermCell}
 use Rattle.calculus.proofs.Reading.{both, T_true}
@@ -12,6 +13,7 @@ use Rattle.stepper.specs.Laws.{Fits, fits_prepare, fits_read}
 use Rattle.stepper.specs.Next.{trees, left, next_cells}
 use Rattle.stepper.specs.Parts.{taken, after}
 use Rattle.stepper.specs.Substitution.{depths, value_cells, substitute_cell, substitute}
+use Rattle.stepper.proofs.Parts.{parted}
 
 abbrev Each : List TermCell → Type 0
 Each cs = T (every allowed cs)
@@ -33,24 +35,16 @@ each_last [] ys h = h
 each_last (x ∷ xs) ys h = each_last xs ys (both (allowed x) (every allowed (xs ++ ys)) h).1
 
 each_taken : (k : ℕ) (cs : List TermCell) → Each cs → Each (taken k cs)
-each_taken zero cs h = tt
-each_taken (suc k) [] h = tt
-each_taken (suc k) (c ∷ cs) h = let (p, q) = both (allowed c) (every allowed cs) h in and_both (allowed c) (every allowed (taken (k + arity c) cs)) p (each_taken (k + arity c) cs q)
+each_taken k cs h = each_first (taken k cs) (after k cs) (subst Each (sym (parted k cs)) h)
 
 each_after : (k : ℕ) (cs : List TermCell) → Each cs → Each (after k cs)
-each_after zero cs h = h
-each_after (suc k) [] h = tt
-each_after (suc k) (c ∷ cs) h = each_after (k + arity c) cs (both (allowed c) (every allowed cs) h).1
+each_after k cs h = each_last (taken k cs) (after k cs) (subst Each (sym (parted k cs)) h)
 
 each_take : (k : ℕ) (cs : List TermCell) → Each cs → Each (take k cs)
-each_take zero cs h = tt
-each_take (suc k) [] h = tt
-each_take (suc k) (c ∷ cs) h = let (p, q) = both (allowed c) (every allowed cs) h in and_both (allowed c) (every allowed (take k cs)) p (each_take k cs q)
+each_take k cs h = each_first (take k cs) (drop k cs) (subst Each (sym (take-append-drop k cs)) h)
 
 each_drop : (k : ℕ) (cs : List TermCell) → Each cs → Each (drop k cs)
-each_drop zero cs h = h
-each_drop (suc k) [] h = tt
-each_drop (suc k) (c ∷ cs) h = each_drop k cs (both (allowed c) (every allowed cs) h).1
+each_drop k cs h = each_last (take k cs) (drop k cs) (subst Each (sym (take-append-drop k cs)) h)
 
 abbrev EachOf : List (List TermCell) → Type 0
 EachOf [] = Unit {0}

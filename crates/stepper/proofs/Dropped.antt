@@ -3,7 +3,7 @@ use Rattle.std.proofs.Common.{◌≡◌, ℕ, zero, suc, ◌+◌, ◌<◌, ◌�
 use Rattle.std.specs.List.{range_with_len}
 use Rattle.std.proofs.lemmas.Bool.{cases_lt, eqb-true, eq-eqb, ltb-true, false≢true}
 use Rattle.calculus.specs.Terms.{bit_of, meas, new, gate, bound, held, var, const, star, lam, app, pair, if_then_else, let_pair, Running, Free, free_var, free_lam, free_fun, free_arg, free_left, free_right, free_test, free_then, free_else, free_pair, free_body}
-use Rattle.calculus.specs.Names.{Names, In}
+use Rattle.calculus.specs.Names.{Names, In, Rising}
 use Rattle.calculus.specs.Cells.{running_cells, unclaimed}
 use Rattle.calculus.specs.Letters.{allowed}
 use Rattle.calculus.specs.Reading.{every}
@@ -11,7 +11,7 @@ use Rattle.calculus.specs.declared.cells.TermCell.{TermCell}
 use Rattle.calculus.proofs.Reading.{both, T_true}
 use Rattle.finder.specs.Laws.{Means}
 use Rattle.stepper.specs.Naming.{name_of, is_name, names, dropped}
-use Rattle.stepper.specs.Names.{Rising, NamesLaws}
+use Rattle.stepper.specs.Names.{NamesLaws}
 use Rattle.stepper.proofs.Allowed.{each_first, each_last}
 
 names_unclaimed : (cs : List TermCell) (h : ℕ) → names (unclaimed cs) h ≡ names cs h

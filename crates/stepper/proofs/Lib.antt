@@ -6,5 +6,4 @@ pub mod Parts
 pub mod Puts
 pub mod Steps
 pub mod Substitution
-pub mod Tables
 pub mod Terms

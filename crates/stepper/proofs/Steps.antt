@@ -12,6 +12,7 @@ use Rattle.calculus.proofs.Values.{free_present, none_present}
 use Rattle.finder.specs.Finding.{answer}
 use Rattle.finder.specs.Laws.{Means, Asks}
 use Rattle.finder.specs.Steps.{step_rule, step_cell}
+use Rattle.finder.proofs.Places.{counted}
 use Rattle.finder.proofs.Reduction.{search_is_reduction}
 use Rattle.finder.specs.declared.works.Rule.{Rule}
 use Rattle.finder.specs.declared.works.Rule.TheVariants.{Function, Pair, Then, Else, Prepare, Read, Gates}
@@ -24,7 +25,7 @@ use Rattle.stepper.specs.Substitution.{substitute}
 use Rattle.stepper.proofs.Allowed.{each_next}
 use Rattle.stepper.proofs.Claims.{unclaims}
 use Rattle.stepper.proofs.Parts.{after_more}
-use Rattle.stepper.proofs.Terms.{running_size, first_term, after_term, substituted_cells}
+use Rattle.stepper.proofs.Terms.{first_term, after_term, substituted_cells}
 
 -- at a redex the next term is what is left of its trees, between the cells before and those after
 at_redex : (b ds : List TermCell) (x y : TermCell) (at : ℕ) (rule : Rule) (answer : Answer) → at ≡ length b + 0
@@ -50,18 +51,25 @@ abbrev Made : {m n : Running} {e : Effect} → Reduces m e n → Type 0
 Made {m} {n} {e} d = (b a : List TermCell) (at : ℕ) → at ≡ length b + step_cell d → Closed m → next_cells (b ++ (running_cells m ++ a)) (step_rule d) at (answer_of e) ≡ b ++ (running_cells n ++ a)
 
 -- the part that is worked is the last of a node, or the first
-in_last : (c : TermCell) (b xs ys a : List TermCell) → (b ++ (c ∷ xs)) ++ (ys ++ a) ≡ b ++ ((c ∷ (xs ++ ys)) ++ a)
-in_last c b xs ys a = append_assoc b (c ∷ xs) (ys ++ a) ∙ ap (λ ds. b ++ (c ∷ ds)) (sym (append_assoc xs ys a))
+in_last : {m n : Running} {e : Effect} (d : Reduces m e n) → Made d → (c : TermCell) (v : Running) (b a : List TermCell) (at : ℕ) → at ≡ length b + (1 + size v + step_cell d) → Closed m
+    → next_cells (b ++ ((c ∷ (running_cells v ++ running_cells m)) ++ a)) (step_rule d) at (answer_of e) ≡ b ++ ((c ∷ (running_cells v ++ running_cells n)) ++ a)
+in_last {m} {n} {e} d f c v b a at p h =
+    ap (λ ds. next_cells ds (step_rule d) at (answer_of e)) (sym (parts (running_cells m)))
+    ∙ f (b ++ (c ∷ running_cells v)) a at (omega (arith, length-append b (c ∷ running_cells v), counted v)) h
+    ∙ parts (running_cells n)
+  where
+    parts : (ys : List TermCell) → (b ++ (c ∷ running_cells v)) ++ (ys ++ a) ≡ b ++ ((c ∷ (running_cells v ++ ys)) ++ a)
+    parts ys = append_assoc b (c ∷ running_cells v) (ys ++ a) ∙ ap (λ ds. b ++ (c ∷ ds)) (sym (append_assoc (running_cells v) ys a))
 
-in_first : (c : TermCell) (b xs ys a : List TermCell) → (b ++ (c ∷ [])) ++ (xs ++ (ys ++ a)) ≡ b ++ ((c ∷ (xs ++ ys)) ++ a)
-in_first c b xs ys a = append_assoc b (c ∷ []) (xs ++ (ys ++ a)) ∙ ap (λ ds. b ++ (c ∷ ds)) (sym (append_assoc xs ys a))
-
-module _ (c : TermCell) (rule : Rule) (answer : Answer) (b a : List TermCell) (at : ℕ) where
-  last_made : (xs ys zs : List TermCell) → next_cells ((b ++ (c ∷ xs)) ++ (ys ++ a)) rule at answer ≡ (b ++ (c ∷ xs)) ++ (zs ++ a) → next_cells (b ++ ((c ∷ (xs ++ ys)) ++ a)) rule at answer ≡ b ++ ((c ∷ (xs ++ zs)) ++ a)
-  last_made xs ys zs f = ap (λ ds. next_cells ds rule at answer) (sym (in_last c b xs ys a)) ∙ f ∙ in_last c b xs zs a
-
-  first_made : (xs ys zs : List TermCell) → next_cells ((b ++ (c ∷ [])) ++ (xs ++ (ys ++ a))) rule at answer ≡ (b ++ (c ∷ [])) ++ (zs ++ (ys ++ a)) → next_cells (b ++ ((c ∷ (xs ++ ys)) ++ a)) rule at answer ≡ b ++ ((c ∷ (zs ++ ys)) ++ a)
-  first_made xs ys zs f = ap (λ ds. next_cells ds rule at answer) (sym (in_first c b xs ys a)) ∙ f ∙ in_first c b zs ys a
+in_first : {m n : Running} {e : Effect} (d : Reduces m e n) → Made d → (c : TermCell) (ys b a : List TermCell) (at : ℕ) → at ≡ length b + (1 + step_cell d) → Closed m
+    → next_cells (b ++ ((c ∷ (running_cells m ++ ys)) ++ a)) (step_rule d) at (answer_of e) ≡ b ++ ((c ∷ (running_cells n ++ ys)) ++ a)
+in_first {m} {n} {e} d f c ys b a at p h =
+    ap (λ ds. next_cells ds (step_rule d) at (answer_of e)) (sym (parts (running_cells m)))
+    ∙ f (b ++ (c ∷ [])) (ys ++ a) at (omega (arith, length-append b (c ∷ []))) h
+    ∙ parts (running_cells n)
+  where
+    parts : (xs : List TermCell) → (b ++ (c ∷ [])) ++ (xs ++ (ys ++ a)) ≡ b ++ ((c ∷ (xs ++ ys)) ++ a)
+    parts xs = append_assoc b (c ∷ []) (xs ++ (ys ++ a)) ∙ ap (λ ds. b ++ (c ∷ ds)) (sym (append_assoc xs ys a))
 
 made : {m n : Running} {e : Effect} (d : Reduces m e n) → Made d
 made (apply_function {m = m} {v = v} w) b a at e h =
@@ -104,24 +112,12 @@ made (read_qubit {h = i} {b = false}) b a at e h = at_redex b (cell_of 113 i 0 �
 made (apply_gate {u = u} {a = x} o) b a at e h =
     at_redex b (running_cells x ++ a) (cell_of 97 0 0) _ at Gates Nothing e
     ∙ ap₂ (λ us vs. b ++ (us ++ vs)) (first_term x a) (after_term x a)
-made (in_argument {m = f} {n = x} {n' = y} d) b a at e h =
-    last_made (cell_of 97 0 0) _ _ b a at (running_cells f) (running_cells x) (running_cells y)
-    (made d (b ++ (cell_of 97 0 0 ∷ running_cells f)) a at (omega (arith, length-append b (cell_of 97 0 0 ∷ running_cells f), running_size f)) (λ i g. h i (free_arg g)))
-made (in_function {m = x} {m' = y} {v = v} w d) b a at e h =
-    first_made (cell_of 97 0 0) _ _ b a at (running_cells x) (running_cells v) (running_cells y)
-    (made d (b ++ (cell_of 97 0 0 ∷ [])) (running_cells v ++ a) at (omega (arith, length-append b (cell_of 97 0 0 ∷ []))) (λ i g. h i (free_fun g)))
-made (in_left {m = x} {m' = y} {n = v} d) b a at e h =
-    first_made (cell_of 112 0 0) _ _ b a at (running_cells x) (running_cells v) (running_cells y)
-    (made d (b ++ (cell_of 112 0 0 ∷ [])) (running_cells v ++ a) at (omega (arith, length-append b (cell_of 112 0 0 ∷ []))) (λ i g. h i (free_left g)))
-made (in_right {v = f} {n = x} {n' = y} w d) b a at e h =
-    last_made (cell_of 112 0 0) _ _ b a at (running_cells f) (running_cells x) (running_cells y)
-    (made d (b ++ (cell_of 112 0 0 ∷ running_cells f)) a at (omega (arith, length-append b (cell_of 112 0 0 ∷ running_cells f), running_size f)) (λ i g. h i (free_right g)))
-made (in_condition {p = x} {p' = y} {m = m} {n = n} d) b a at e h =
-    first_made (cell_of 105 0 0) _ _ b a at (running_cells x) (running_cells m ++ running_cells n) (running_cells y)
-    (made d (b ++ (cell_of 105 0 0 ∷ [])) ((running_cells m ++ running_cells n) ++ a) at (omega (arith, length-append b (cell_of 105 0 0 ∷ []))) (λ i g. h i (free_test g)))
-made (in_pair {m = x} {m' = y} {n = v} d) b a at e h =
-    first_made (cell_of 100 0 0) _ _ b a at (running_cells x) (running_cells v) (running_cells y)
-    (made d (b ++ (cell_of 100 0 0 ∷ [])) (running_cells v ++ a) at (omega (arith, length-append b (cell_of 100 0 0 ∷ []))) (λ i g. h i (free_pair g)))
+made (in_argument {m = f} d) b a at e h = in_last d (made d) (cell_of 97 0 0) f b a at e (λ i g. h i (free_arg g))
+made (in_function {v = v} w d) b a at e h = in_first d (made d) (cell_of 97 0 0) (running_cells v) b a at e (λ i g. h i (free_fun g))
+made (in_left {n = v} d) b a at e h = in_first d (made d) (cell_of 112 0 0) (running_cells v) b a at e (λ i g. h i (free_left g))
+made (in_right {v = v} w d) b a at e h = in_last d (made d) (cell_of 112 0 0) v b a at e (λ i g. h i (free_right g))
+made (in_condition {m = m} {n = n} d) b a at e h = in_first d (made d) (cell_of 105 0 0) (running_cells m ++ running_cells n) b a at e (λ i g. h i (free_test g))
+made (in_pair {n = v} d) b a at e h = in_first d (made d) (cell_of 100 0 0) (running_cells v) b a at e (λ i g. h i (free_pair g))
 
 steps : {m n : Running} {e : Effect} (d : Reduces m e n) → Closed m → next_cells (running_cells m) (step_rule d) (step_cell d) (answer_of e) ≡ running_cells n
 steps {m} {n} {e} d h =

@@ -1,29 +1,15 @@
 -- The cells of running terms: how they are parted, and what stands for them.
-use Rattle.std.proofs.Common.{◌≡◌, ℕ, zero, suc, ◌+◌, ◌-◌, Bool, true, false, cond, ltb, List, [], ◌∷◌, ◌++◌, map, length, sym, refl, ap, ap₂, ◌∙◌, add-one, arith}
+use Rattle.std.proofs.Common.{◌≡◌, ℕ, zero, suc, ◌+◌, ◌-◌, Bool, true, false, cond, ltb, List, [], ◌∷◌, ◌++◌, map, sym, refl, ap, ap₂, ◌∙◌, add-one, arith}
 use native.Mathlib.Numerals.{add-two}
 use Rattle.std.proofs.lemmas.List.{append_assoc, append-nil}
-use Rattle.calculus.specs.Terms.{bit_of, meas, new, gate, bound, held, var, const, star, lam, app, pair, if_then_else, let_pair, reclaimed, size, Running}
+use Rattle.calculus.specs.Terms.{bit_of, meas, new, gate, bound, held, var, const, star, lam, app, pair, if_then_else, let_pair, Running}
 use Rattle.calculus.specs.Cells.{running_cells, cell_of}
 use Rattle.calculus.specs.Reduction.{substituted, replaced, chosen}
 use Rattle.calculus.specs.declared.cells.TermCell.{TermCell}
-use Rattle.calculus.proofs.ReadTerms.{cells_counted}
 use Rattle.calculus.proofs.Values.{raised_below}
 use Rattle.stepper.specs.Laws.{AllClosed}
 use Rattle.stepper.specs.Parts.{taken, after}
 use Rattle.stepper.specs.Substitution.{value_cells, substitute}
-
-size_reclaimed : (m : Running) → size {C = ℕ} (reclaimed (λ c. 0) m) ≡ size m
-size_reclaimed (var c x) = refl
-size_reclaimed (const c k) = refl
-size_reclaimed (star c) = refl
-size_reclaimed (lam c m) = ap (λ n. suc n) (size_reclaimed m)
-size_reclaimed (app c m n) = ap₂ (λ i j. suc (i + j)) (size_reclaimed m) (size_reclaimed n)
-size_reclaimed (pair c m n) = ap₂ (λ i j. suc (i + j)) (size_reclaimed m) (size_reclaimed n)
-size_reclaimed (if_then_else c p m n) = ap₂ (λ i j. suc (i + j)) (size_reclaimed p) (ap₂ (λ i j. i + j) (size_reclaimed m) (size_reclaimed n))
-size_reclaimed (let_pair c m n) = ap₂ (λ i j. suc (i + j)) (size_reclaimed m) (size_reclaimed n)
-
-pub running_size : (m : Running) → length (running_cells m) ≡ size m
-running_size m = cells_counted (reclaimed (λ c. 0) m) ∙ size_reclaimed m
 
 -- the cells of a term are one tree, whatever is due after it
 abbrev Taken : Running → Type 0

@@ -1,3 +1,4 @@
+pub mod Front
 pub mod Laws
 pub mod Names
 pub mod Naming

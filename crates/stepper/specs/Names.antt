@@ -1,15 +1,10 @@
 -- The cells of a running term name the qubits that the term names.
-use Rattle.std.specs.Prelude.{◌≡◌, ℕ, ◌<◌, Bool, true, ◌↔◌, List, [], ◌∷◌}
-use Rattle.calculus.specs.Names.{Names, In}
+use Rattle.std.specs.Prelude.{◌≡◌, ℕ, Bool, true, ◌↔◌, List}
+use Rattle.calculus.specs.Names.{Names, In, Rising}
 use Rattle.calculus.specs.Terms.{Running}
 use Rattle.calculus.specs.declared.cells.TermCell.{TermCell}
 use Rattle.finder.specs.Laws.{Means}
 use Rattle.stepper.specs.Naming.{names, dropped}
-
--- each number is below those after it
-abbrev pub Rising : List ℕ → Type 0
-Rising [] = Unit {0}
-Rising (k ∷ ks) = ((h : ℕ) → In h ks → k < h) × Rising ks
 
 pub record NamesLaws : Type 0 where
   -- the cells name a handle exactly if the term does

@@ -1,5 +1,5 @@
 -- The trees that cells begin with, and the cells after them. Where cells end before their trees, all are taken and none is left.
-use Rattle.std.specs.Prelude.{ℕ, zero, suc, ◌+◌, ◌-◌, List, [], ◌∷◌, length}
+use Rattle.std.specs.Prelude.{ℕ, zero, suc, ◌+◌, List, [], ◌∷◌}
 use Rattle.calculus.specs.Letters.{arity}
 use Rattle.calculus.specs.declared.cells.TermCell.{TermCell}
 
@@ -14,7 +14,3 @@ abbrev pub after : ℕ → List TermCell → List TermCell
 after zero cs = cs
 after (suc due) [] = []
 after (suc due) (c ∷ cs) = after (due + arity c) cs
-
--- the place in a table at which its last cells begin
-abbrev pub place : List TermCell → List TermCell → ℕ
-place cs last = length cs - length last

@@ -1,5 +1,6 @@
 -- Substitution on cells: one walk over trees that puts values for the variables of the binders around them.
-use Rattle.std.specs.Prelude.{ℕ, zero, suc, ◌+◌, ◌-◌, cond, List, [], ◌∷◌, ◌++◌, Some, None, Option, ◌==◌, nat_lt}
+use Rattle.std.specs.Prelude.{ℕ, zero, suc, ◌+◌, ◌-◌, cond, List, [], ◌∷◌, ◌++◌, map, ◌==◌, nat_lt}
+use Rattle.std.specs.Borrow.{Bor}
 use Rattle.calculus.specs.Letters.{Letter, at_v, at_q, at_g, at_0, at_1, at_m, at_n, at_s, at_l, at_a, at_p, at_d, at_i, other, letter}
 use Rattle.calculus.specs.declared.cells.TermCell.{TermCell}
 use Rattle.stepper.specs.Writing.{running_cell}
@@ -21,10 +22,9 @@ depths at_d k = k ∷ suc (suc k) ∷ []
 depths at_i k = k ∷ k ∷ k ∷ []
 depths other k = []
 
--- the values for the variables of one binder, or of two, the nearer first
-abbrev pub values : List TermCell → Option (List TermCell) → List (List TermCell)
-values near None = near ∷ []
-values near (Some far) = near ∷ far ∷ []
+-- the values for the variables of some binders, the nearer first
+abbrev pub values_of : List (Bor (List TermCell)) → List (List TermCell)
+values_of vs = map (λ v. v.now) vs
 
 -- what stands for the variable k + j: a value, or past the values the variable that it is without their binders
 abbrev pub value_cells : ℕ → List (List TermCell) → ℕ → List TermCell

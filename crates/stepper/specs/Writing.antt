@@ -31,11 +31,6 @@ put_cells table len cs = cond (nat_le (len + length cs) 1024) (cond (nat_le (len
 abbrev pub IsPut : List TermCell → List TermCell → ℕ → List TermCell → Type 0
 IsPut old new len cs = len + length cs ≤ 1024 → len + length cs ≤ length old → new ≡ overwritten old len cs
 
--- a place beside a count, if there is one
-abbrev pub placed : ℕ → Option ℕ → Option (ℕ × ℕ)
-placed p None = None
-placed p (Some n) = Some (p, n)
-
 -- how many cells there are, if a running term may have so many
 abbrev pub counted : List TermCell → Option ℕ
 counted cs = cond (nat_le (length cs) 1024) (Some (length cs)) None

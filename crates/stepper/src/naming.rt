@@ -9,11 +9,8 @@ use calculus::{HANDLES, TermCell};
 fn name_of(cell: TermCell) -> Option<usize>
     ensures { result ≡ name_of cell }
 {
-    if cell.op == 'q' && (cell.argument as usize) < HANDLES {
-        Some(cell.argument as usize)
-    } else {
-        None
-    }
+    let handle = cell.argument as usize;
+    (cell.op == 'q' && handle < HANDLES).then_some(handle)
 }
 
 /// Which handles the cells name.
@@ -21,8 +18,8 @@ pub fn named(cells: &[TermCell]) -> [bool; HANDLES]
     ensures { (h : ℕ) → h < 32 → slice_index_or result h false ≡ names cells.now h }
 {
     let mut named = [false; HANDLES];
-    for i in (0..cells.len()).rev() {
-        if let Some(handle) = name_of(cells[i]) {
+    for cell in cells {
+        if let Some(handle) = name_of(*cell) {
             named[handle] = true;
         }
     }

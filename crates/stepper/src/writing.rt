@@ -1,11 +1,10 @@
 //! Writes the next term: what a rule leaves, in place of the cells that it applies to.
 
-ghost use Rattle.std.specs.Prelude.{◌≡◌, ◌+◌, ◌*◌, ◌≤◌, [], ◌∷◌, length, take, drop};
-ghost use Rattle.std.specs.Option.{option_copied};
+ghost use Rattle.std.specs.Prelude.{◌≡◌, ◌+◌, ◌*◌, ◌^◌, ◌<◌, ◌≤◌, [], ◌∷◌, length, take, drop, IfSome};
 ghost use Rattle.stepper.specs.Next.{trees, left, next_cells};
-ghost use Rattle.stepper.specs.Parts.{taken, after, place};
-ghost use Rattle.stepper.specs.Substitution.{values, substitute_cell, substitute};
-ghost use Rattle.stepper.specs.Writing.{running_cell, answer_cell, put_count, put_cells, IsPut, placed, counted, fronted};
+ghost use Rattle.stepper.specs.Parts.{taken, after};
+ghost use Rattle.stepper.specs.Substitution.{values_of, substitute_cell};
+ghost use Rattle.stepper.specs.Writing.{running_cell, answer_cell, put_cells, IsPut, counted, fronted};
 
 use calculus::{MOST_RUNNING_CELLS, TermCell};
 use finder::Rule;
@@ -33,12 +32,12 @@ fn running(op: char, argument: u16) -> TermCell
     }
 }
 
-impl Answer {
-    // The cell that the answer is in a running term: unit for none, a qubit's name or a bit.
-    fn cell(self) -> TermCell
-        ensures { result ≡ answer_cell self }
-    {
-        match self {
+/// The cell that the answer is in a running term: unit for none, a qubit's name or a bit.
+impl From<Answer> for TermCell {
+    ghost from_gives = { λ answer cell. cell ≡ answer_cell answer };
+
+    fn from(answer: Answer) -> TermCell {
+        match answer {
             Answer::Nothing => running('s', 0),
             Answer::Handle(handle) => running('q', u16::from(handle)),
             Answer::Outcome(true) => running('1', 0),
@@ -47,180 +46,145 @@ impl Answer {
     }
 }
 
-// A body in which values go in for the variables of its binders: for the nearest, and under a let for the one outside it.
-#[derive(Clone, Copy, Drop)]
-struct Body<'a> {
-    cells: &'a [TermCell],
-    near: &'a [TermCell],
-    far: Option<&'a [TermCell]>,
-}
-
-// Puts cells behind the first `len` of a table, if it is long enough to hold them, and answers how many there are then;
-// nothing where a running term may not have so many. So an empty table has cells only counted.
-fn put(table: &mut [TermCell], len: usize, cells: &[TermCell]) -> Option<usize>
-    requires { len ≤ 1024 }
-    ensures answer { result ≡ put_count len cells.now }
-    ensures table { table.new ≡ put_cells table.old len cells.now }
+// The tree that the cells begin with, and the cells after it; all, where it does not end.
+fn split_tree(cells: &[TermCell]) -> (&[TermCell], &[TermCell])
+    ensures tree { result.0.now ≡ taken 1 cells.now }
+    ensures rest { result.1.now ≡ after 1 cells.now }
 {
-    if cells.len() > MOST_RUNNING_CELLS - len {
-        return None;
-    }
-    let end = len + cells.len();
-    if end <= table.len() {
-        table[len..end].copy_from_slice(cells);
-    }
-    Some(end)
+    let len = reach(cells, 0).unwrap_or(cells.len());
+    cells.split_at(len)
 }
 
-impl Body<'_> {
-    // Puts what stands for a cell under `depth` binders: itself, a value, or the variable that it is without the binders of the values.
-    fn put_cell(
-        &self,
-        cell: TermCell,
-        depth: usize,
-        table: &mut [TermCell],
-        len: usize,
-    ) -> Option<usize>
-        requires { len ≤ 1024 }
-        ensures answer { let vs = values self.now.near.now (option_copied self.now.far) in result ≡ put_count len (substitute_cell vs depth cell) }
-        ensures table { let vs = values self.now.near.now (option_copied self.now.far) in table.new ≡ put_cells table.old len (substitute_cell vs depth cell) }
+// Cells that are put at the front of a table, one behind the other: they are counted, and written as far as the table has room for them.
+// There are never more than a running term may have. An empty table has cells only counted.
+#[derive(Drop)]
+struct Front<'a> {
+    table: &'a mut [TermCell],
+    len: usize,
+    ghost few: { len ≤ 1024 },
+}
+
+impl Front<'_> {
+    ghost use Rattle.stepper.specs.Front.{Puts, PutsTrees};
+
+    // Puts cells behind those that are there; nothing where a running term may not have so many.
+    fn put(&mut self, cells: &[TermCell]) -> Option<()>
+        ensures put { Puts result self.old self.new cells.now }
+        ensures table { self.new.table.now ≡ put_cells self.old.table.now self.old.len cells.now }
+    {
+        if cells.len() > MOST_RUNNING_CELLS - self.len {
+            return None;
+        }
+        let end = self.len + cells.len();
+        if end <= self.table.len() {
+            self.table[self.len..end].copy_from_slice(cells);
+        }
+        self.len = end;
+        Some(())
+    }
+
+    // Puts what stands for a cell under `depth` binders, around which are those of the values: itself, a value, or the variable that
+    // it is without their binders.
+    fn put_cell(&mut self, cell: TermCell, depth: usize, values: &[&[TermCell]]) -> Option<()>
+        ensures { Puts result self.old self.new (substitute_cell (values_of values.now) depth cell) }
     {
         let index = cell.argument as usize;
         if cell.op != 'v' || index < depth {
-            return put(table, len, &[cell]);
+            return self.put(&[cell]);
         }
-        match (index - depth, self.far) {
-            (0, _) => put(table, len, self.near),
-            (1, Some(far)) => put(table, len, far),
-            (_, Some(_)) => put(table, len, &[running('v', cell.argument - 2)]),
-            (_, None) => put(table, len, &[running('v', cell.argument - 1)]),
+        match values.get(index - depth) {
+            Some(value) => self.put(value),
+            None => self.put(&[running('v', cell.argument - values.len() as u16)]),
         }
     }
 
-    // Puts what stands for the tree at `at` of the body, which has `depth` binders around it; answers one past the tree, and the table's count.
-    fn substitute(
-        &self,
-        at: usize,
+    // Puts what stands for the tree that the cells begin with, which has `depth` binders around it within those of the values, the
+    // nearer first; answers the cells after the tree.
+    fn substitute<'c>(
+        &mut self,
+        cells: &'c [TermCell],
         depth: usize,
-        table: &mut [TermCell],
-        len: usize,
-    ) -> Option<(usize, usize)>
-        requires { (depth ≤ 2 * at) × (len ≤ 1024) }
-        ensures answer { let vs = values self.now.near.now (option_copied self.now.far) in let cs = drop at self.now.cells.now in result ≡ placed (place self.now.cells.now (after 1 cs)) (put_count len (substitute vs (depth ∷ []) cs)) }
-        ensures table { let vs = values self.now.near.now (option_copied self.now.far) in IsPut table.old table.new len (substitute vs (depth ∷ []) (drop at self.now.cells.now)) }
+        values: &[&[TermCell]],
+    ) -> Option<&'c [TermCell]>
+        requires { depth + 2 * length cells.now < 2 ^ 64 }
+        ensures { PutsTrees result self.old self.new (values_of values.now) (depth ∷ []) cells.now }
     {
-        if at >= self.cells.len() {
-            return Some((self.cells.len(), len));
-        }
-        let cell = self.cells[at];
-        let len = self.put_cell(cell, depth, table, len)?;
+        let [cell, rest @ ..] = cells else {
+            return Some(cells);
+        };
+        self.put_cell(*cell, depth, values)?;
         match cell.op {
-            'l' => self.substitute(at + 1, depth + 1, table, len),
+            'l' => self.substitute(rest, depth + 1, values),
             'a' | 'p' => {
-                let (second, len) = self.substitute(at + 1, depth, table, len)?;
-                self.substitute(second, depth, table, len)
+                let second = self.substitute(rest, depth, values)?;
+                self.substitute(second, depth, values)
             }
             'd' => {
-                let (body, len) = self.substitute(at + 1, depth, table, len)?;
-                self.substitute(body, depth + 2, table, len)
+                let body = self.substitute(rest, depth, values)?;
+                self.substitute(body, depth + 2, values)
             }
             'i' => {
-                let (second, len) = self.substitute(at + 1, depth, table, len)?;
-                let (third, len) = self.substitute(second, depth, table, len)?;
-                self.substitute(third, depth, table, len)
+                let second = self.substitute(rest, depth, values)?;
+                let third = self.substitute(second, depth, values)?;
+                self.substitute(third, depth, values)
             }
-            _ => Some((at + 1, len)),
+            _ => Some(rest),
+        }
+    }
+
+    // Puts what the rule leaves of the trees of its redex, with which the cells begin; answers the cells after the trees.
+    fn put_left<'c>(
+        &mut self,
+        cells: &'c [TermCell],
+        rule: Rule,
+        answer: Answer,
+    ) -> Option<&'c [TermCell]>
+        ensures put { Puts result self.old self.new (left rule answer cells.now) }
+        ensures after_trees { IfSome result (λ rest. rest.now ≡ after (trees rule) cells.now) }
+    {
+        let (first, rest) = split_tree(cells);
+        match rule {
+            Rule::Function => {
+                let (value, rest) = split_tree(rest);
+                self.substitute(cells, 0, &[value])?;
+                Some(rest)
+            }
+            Rule::Pair => {
+                let (second, body) = split_tree(rest);
+                self.substitute(body, 0, &[second, first])
+            }
+            Rule::Then => {
+                self.put(first)?;
+                let (_, rest) = split_tree(rest);
+                Some(rest)
+            }
+            Rule::Else => {
+                let (second, rest) = split_tree(rest);
+                self.put(second)?;
+                Some(rest)
+            }
+            Rule::Prepare | Rule::Read => {
+                self.put(&[TermCell::from(answer)])?;
+                Some(rest)
+            }
+            Rule::Gates => {
+                self.put(first)?;
+                Some(rest)
+            }
         }
     }
 }
 
-// Puts the tree that the cells begin with, with values for the variables of one binder around it, or of two.
-fn put_body(
-    cells: &[TermCell],
-    near: &[TermCell],
-    far: Option<&[TermCell]>,
-    table: &mut [TermCell],
-    len: usize,
-) -> Option<usize>
-    requires { len ≤ 1024 }
-    ensures answer { result ≡ put_count len (substitute (values near.now (option_copied far.entry)) (0 ∷ []) cells.now) }
-    ensures table { IsPut table.old table.new len (substitute (values near.now (option_copied far.entry)) (0 ∷ []) cells.now) }
+// The cells before a redex, and those past its first two, which begin with its trees; none, where there are no more.
+fn split_redex(cells: &[TermCell], at: usize) -> (&[TermCell], &[TermCell])
+    ensures before { result.0.now ≡ take at cells.now }
+    ensures trees { result.1.now ≡ drop (at + 2) cells.now }
 {
-    let (_, len) = Body { cells, near, far }.substitute(0, 0, table, len)?;
-    Some(len)
-}
-
-// How many cells the tree has that the cells begin with: all, where it does not end.
-fn tree_len(cells: &[TermCell]) -> usize
-    ensures len { result ≡ length (taken 1 cells.now) }
-    ensures within { result ≤ length cells.now }
-{
-    match reach(cells, 0) {
-        Some(end) => end,
-        None => cells.len(),
+    let (before, redex) = cells.split_at(at.min(cells.len()));
+    match redex {
+        [_, _, trees @ ..] => (before, trees),
+        _ => (before, &[]),
     }
-}
-
-// The tree that the cells begin with.
-fn tree(cells: &[TermCell]) -> &[TermCell]
-    ensures { result.now ≡ taken 1 cells.now }
-{
-    &cells[..tree_len(cells)]
-}
-
-// The cells after that tree.
-fn after(cells: &[TermCell]) -> &[TermCell]
-    ensures { result.now ≡ after 1 cells.now }
-{
-    &cells[tree_len(cells)..]
-}
-
-// The cells after the trees of a rule's redex.
-fn after_redex(rule: Rule, cells: &[TermCell]) -> &[TermCell]
-    ensures { result.now ≡ after (trees rule) cells.now }
-{
-    match rule {
-        Rule::Prepare | Rule::Read | Rule::Gates => after(cells),
-        Rule::Function | Rule::Then | Rule::Else => after(after(cells)),
-        Rule::Pair => after(after(after(cells))),
-    }
-}
-
-// Puts what the rule leaves of the trees of its redex, with which the cells begin.
-fn put_left(
-    cells: &[TermCell],
-    rule: Rule,
-    answer: Answer,
-    table: &mut [TermCell],
-    len: usize,
-) -> Option<usize>
-    requires { len ≤ 1024 }
-    ensures answer { result ≡ put_count len (left rule answer cells.now) }
-    ensures table { IsPut table.old table.new len (left rule answer cells.now) }
-{
-    let first = tree(cells);
-    let second = tree(after(cells));
-    match rule {
-        Rule::Function => put_body(cells, second, None, table, len),
-        Rule::Pair => put_body(after(after(cells)), second, Some(first), table, len),
-        Rule::Then | Rule::Gates => put(table, len, first),
-        Rule::Else => put(table, len, second),
-        Rule::Prepare | Rule::Read => put(table, len, &[answer.cell()]),
-    }
-}
-
-// The first cells, as many as are given; all, where there are no more.
-fn first_cells(cells: &[TermCell], count: usize) -> &[TermCell]
-    ensures { result.now ≡ take count cells.now }
-{
-    &cells[..count.min(cells.len())]
-}
-
-// The cells past the redex's first two.
-fn redex_trees(cells: &[TermCell], at: usize) -> &[TermCell]
-    ensures { result.now ≡ drop (at + 2) cells.now }
-{
-    &cells[at.saturating_add(2).min(cells.len())..]
 }
 
 // Puts the next term at the front of a table, if it is long enough to hold it.
@@ -234,10 +198,12 @@ fn put_next(
     ensures answer { result ≡ counted (next_cells cells.now rule at answer) }
     ensures table { IsPut table.old table.new 0 (next_cells cells.now rule at answer) }
 {
-    let trees = redex_trees(cells, at);
-    let len = put(table, 0, first_cells(cells, at))?;
-    let len = put_left(trees, rule, answer, table, len)?;
-    put(table, len, after_redex(rule, trees))
+    let (before, trees) = split_redex(cells, at);
+    let mut front = Front { table, len: 0 };
+    front.put(before)?;
+    let rest = front.put_left(trees, rule, answer)?;
+    front.put(rest)?;
+    Some(front.len)
 }
 
 /// Counts the cells of the next term, which the rule makes at a cell with the register's answer, and writes it to the front of
@@ -254,7 +220,7 @@ pub fn next(
 {
     let len = put_next(cells, rule, at, answer, &mut [])?;
     if len <= table.len() {
-        let _ = put_next(cells, rule, at, answer, table);
+        return put_next(cells, rule, at, answer, table);
     }
     Some(len)
 }

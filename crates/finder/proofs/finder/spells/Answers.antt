@@ -1,23 +1,19 @@
-use Rattle.std.proofs.Common.{sym, ◌∙◌}
-use Rattle.std.proofs.lemmas.Bool.{eq-eqb, ne_eqb}
-use Rattle.finder.specs.Finding.{blank}
-use Rattle.finder.proofs.Scans.{spelt_all, spelt_past, spelt_step}
+use Rattle.std.proofs.Common.{rules, tests, ◌<◌, ◌≤◌, length, drop, sym, ◌∙◌, ap, subst}
+use Rattle.std.proofs.lemmas.Bool.{lt-leb}
+use Rattle.std.proofs.lemmas.Iterator.{YieldsList-from_slice, YieldsList-from_zip}
+use Rattle.std.proofs.lemmas.Iterator.Search.{all_from_yields_List}
+use Rattle.finder.proofs.Scans.{is_letter, spelt_zipped, spelt_short, rest_is}
 use Rattle.finder.proofs.finder.spells.Goals as goal
 
-pub returns-then-next-cells : goal.returns-then-next-cells
-returns-then-next-cells c =
-    sym (spelt_past c.args.word.now c.loop-letter.letter-index c.args.cells.now c.loop-letter.next 0 c.loop-letter-test.true c.if-next-cells.true)
-    ∙ c.loop-letter.invariant
+pub returns-then-word-rest : goal.returns-then-word-rest
+returns-then-word-rest c =
+    let rest = rest_is c.args.cells.now c.args.at c.get.result _ c.unwrap_or_default-rest.result c.get.ensures.lookup.0 (λ y d. d) c.unwrap_or_default-rest.ensures in
+    all_from_yields_List is_letter c.all.new.self _ c.all.result c.all.ensures.ran
+    (YieldsList-from_zip (YieldsList-from_slice (drop c.args.at c.args.cells.now) (ap (λ i. i.rest.now) c.zip.ensures.first ∙ c.iter.ensures.rest ∙ rest)) (YieldsList-from_slice c.args.word.now c.zip.ensures.second.0))
+    (λ x b q k. search (rules, tests))
+    ∙ spelt_zipped c.args.word.now (drop c.args.at c.args.cells.now) (subst (λ xs. length c.args.word.now ≤ length xs) rest c.if-word-rest.true)
 
-pub returns-then-cells-next : goal.returns-then-cells-next
-returns-then-cells-next c =
-    let e = spelt_step c.args.word.now c.loop-letter.letter-index c.args.cells.now c.loop-letter.next c.letter-item.result blank c.loop-letter-test.true c.if-next-cells.false c.letter-item.is in
-    sym (simp (ne_eqb _ _ c.if-cells-next.true) at e) ∙ c.loop-letter.invariant
-
-pub loop-letter-preserved : goal.loop-letter-preserved
-loop-letter-preserved c =
-    let e = spelt_step c.args.word.now c.loop-letter.letter-index c.args.cells.now c.loop-letter.next c.letter-item.result blank c.loop-letter-test.true c.if-next-cells.false c.letter-item.is in
-    sym (simp (eq-eqb _ _ c.if-cells-next.false) at e) ∙ c.loop-letter.invariant
-
-pub returns : goal.returns
-returns c = sym (spelt_all c.args.word.now c.loop-letter.letter-index _ c.loop-letter-test.false) ∙ c.loop-letter.invariant
+pub returns-else-word-rest : goal.returns-else-word-rest
+returns-else-word-rest c =
+    let rest = rest_is c.args.cells.now c.args.at c.get.result _ c.unwrap_or_default-rest.result c.get.ensures.lookup.0 (λ y d. d) c.unwrap_or_default-rest.ensures in
+    lt-leb _ _ c.if-word-rest.false ∙ sym (spelt_short c.args.word.now (drop c.args.at c.args.cells.now) (subst (λ xs. length xs < length c.args.word.now) rest c.if-word-rest.false))

@@ -1,23 +1,36 @@
-use Rattle.std.proofs.Common.{◌-◌, true, false, cond, eqb, length, get_or, Some, None, sym, refl, ap, ◌∙◌, arith, length-set}
+use Rattle.std.proofs.Common.{◌≡◌, get_or, false, true, cond, Some, sym, refl, ap, ◌∙◌, arith, length-set}
 use Rattle.std.proofs.lemmas.List.{drop_all, get_or-replicate}
 use Rattle.finder.specs.Finding.{blank}
-use Rattle.stepper.specs.Naming.{names}
-use Rattle.stepper.proofs.Names.{names_before, name_below, set_name}
+use Rattle.stepper.specs.Naming.{name_of, names}
+use Rattle.stepper.proofs.Names.{name_below, named_all, none_more, name_more}
 use Rattle.stepper.proofs.naming.named.Goals as goal
+use Rattle.stepper.proofs.naming.named.Goals.{in-Some, in_default}
 
-pub loop-i-init : goal.loop-i-init
-loop-i-init c = (refl, λ h l. get_or-replicate 32 h false false l ∙ sym (ap (λ ds. names ds h) (drop_all (length c.args.cells.now) c.args.cells.now (omega arith))))
+pub loop-cell-init : goal.loop-cell-init
+loop-cell-init c = record { handles = refl; so_far = λ h l. ap (λ b. cond b true (names c.args.cells.now h)) (get_or-replicate 32 h false false l) }
 
-pub loop-i-preserved : goal.loop-i-preserved
-loop-i-preserved c =
-    (c.loop-i.invariant.0, λ h l. c.loop-i.invariant.1 h l ∙ sym (names_before c.args.cells.now c.loop-i.i None c.loop-i-test.true (omega arith) c.in_default.ensures h))
+pub loop-cell-preserved : goal.loop-cell-preserved
+loop-cell-preserved c =
+    let cs = c.args.cells.now in
+    let i = c.loop-cell.cell-index in
+    elim c.match-name_of.branch [
+      | in-Some w ↦
+          let e : Some w.in-Some.handle ≡ name_of (get_or cs i blank) = w.in-Some.ensures in
+          let below = name_below (get_or cs i blank) w.in-Some.handle e in
+          rw w.named-is
+          (record {
+            handles = length-set c.loop-cell.named w.in-Some.handle true ∙ c.loop-cell.invariant.handles;
+            so_far = λ h l. name_more cs i h c.loop-cell-test.true c.loop-cell.named w.in-Some.handle (omega (arith, c.loop-cell.invariant.handles)) e (c.loop-cell.invariant.so_far h l);
+          })
+      | in_default w ↦
+          rw w.named-is
+          (record {
+            handles = c.loop-cell.invariant.handles;
+            so_far = λ h l. none_more cs i h c.loop-cell-test.true (get_or c.loop-cell.named h false) w.in_default.ensures (c.loop-cell.invariant.so_far h l);
+          })
+    ]
 
-pub loop-i-preserved-in-Some : goal.loop-i-preserved-in-Some
-loop-i-preserved-in-Some c =
-    let k = c.in-Some.handle in
-    let below = name_below (get_or c.args.cells.now (c.loop-i.i - 1) blank) k c.in-Some.ensures in (
-      length-set c.loop-i.named k true ∙ c.loop-i.invariant.0,
-      λ h l. set_name c.loop-i.named k h (omega (arith, c.loop-i.invariant.0))
-          ∙ ap (λ b. cond (eqb k h) true b) (c.loop-i.invariant.1 h l)
-          ∙ sym (names_before c.args.cells.now c.loop-i.i (Some k) c.loop-i-test.true (omega arith) c.in-Some.ensures h),
-    )
+pub returns : goal.returns
+returns c = λ h l.
+    let none = drop_all c.loop-cell.cell-index c.args.cells.now c.loop-cell-test.false in
+    sym (named_all (get_or c.loop-cell.named h false)) ∙ ap (λ ds. cond (get_or c.loop-cell.named h false) true (names ds h)) (sym none) ∙ c.loop-cell.invariant.so_far h l
