@@ -1,5 +1,5 @@
 -- What the tables of an accepted program are.
-use Rattle.std.proofs.Common.{◌≡◌, ℕ, ◌<◌, ◌≤◌, true, false, ltb, T, List, [], ◌∷◌, length, is_ok, Some, Ok, Err, sym, refl, ap, ◌∙◌, arith}
+use Rattle.std.proofs.Common.{◌≡◌, ℕ, ◌<◌, ◌≤◌, true, T, List, [], ◌∷◌, length, is_ok, Some, Ok, Err, refl, arith}
 use Rattle.std.proofs.lemmas.Bool.{false≢true, ltb-true}
 use Rattle.trees.specs.Reach.{ends}
 use Rattle.calculus.specs.declared.cells.TypeCell.{TypeCell}

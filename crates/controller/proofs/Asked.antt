@@ -1,11 +1,11 @@
 -- What the step of a term asks of the register stands at its cell, as the controller reads it.
-use Rattle.std.proofs.Common.{◌≡◌, ℕ, zero, suc, ◌+◌, ◌<◌, Bool, true, false, List, [], ◌∷◌, ◌++◌, map, get_or, drop, Ok, Err, Result, sym, refl, ap, ◌∙◌, ap₂, subst, inl, inr, ◌==◌, arith}
+use Rattle.std.proofs.Common.{◌≡◌, ℕ, ◌+◌, ◌<◌, Bool, true, false, List, [], ◌∷◌, ◌++◌, get_or, drop, Ok, Result, sym, refl, ap, ◌∙◌, ap₂, subst, inl, inr, ◌==◌, arith}
 use Rattle.std.proofs.lemmas.List.{get_or-drop}
 use Rattle.calculus.specs.declared.cells.TermCell.{TermCell}
 use Rattle.calculus.specs.declared.gates.Gate.{Gate}
 use Rattle.calculus.specs.declared.gates.Gate.TheVariants.{H, X, Z, S, Cnot, Swap, Toffoli}
 use Rattle.calculus.specs.declared.gates.Gate.TheVariants.{T as gate_t}
-use Rattle.calculus.specs.Terms.{gate, held, bit_of, meas, new, Running, var, const, app, pair, size}
+use Rattle.calculus.specs.Terms.{gate, bit_of, Running, const, app}
 use Rattle.calculus.specs.Cells.{cell_of, const_argument, const_op, running_cells}
 use Rattle.calculus.specs.Gates.{gate_of}
 use Rattle.calculus.specs.Reading.{or_toffoli}
@@ -18,7 +18,7 @@ use Rattle.stepper.specs.declared.writing.Answer.{Answer}
 use Rattle.stepper.specs.declared.writing.Answer.TheVariants.{Nothing, Handle, Outcome}
 use Rattle.controller.specs.declared.faults.ControllerFault.{ControllerFault}
 use Rattle.finder.specs.Finding.{blank}
-use Rattle.controller.specs.Asking.{cell_at, handle_of, gate_at, qubit_places, qubits_at, bit_asked, qubit_asked, gate_asked, Told, passed, asked, after_asked}
+use Rattle.controller.specs.Asking.{cell_at, handle_of, qubits_at, bit_asked, qubit_asked, gate_asked, Told, passed, asked, after_asked}
 
 -- the handles of an effect are those of qubits
 abbrev pub Within : Effect → Type 0

@@ -29,8 +29,8 @@ use Rattle.controller.proofs.Keeping.{stays, ended, loaded_stands}
 -- The finder answers for a value just where it answers nothing.
 value_answered : (x : Result (Option (Rule × ℕ)) FindFault) → is_value x ≡ true → x ≡ Ok None
 value_answered (Ok None) e = refl
-value_answered (Ok (Some y)) e = let z : ◌≡◌ {A = Bool} false true = e in cc
-value_answered (Err f) e = let z : ◌≡◌ {A = Bool} false true = e in cc
+value_answered (Ok (Some y)) e = absurd (false≢true e)
+value_answered (Err f) e = absurd (false≢true e)
 
 abbrev short_for : Held → ℕ → ℕ → Bool
 short_for h v w = nat_lt v (length h.cells) || nat_lt w (length h.kinds)
@@ -46,10 +46,10 @@ module _ (cs : List TermCell) (m : Running) (means : Means cs m) where
   as_long : length cs ≡ size m
   as_long = sym (as_many cs) ∙ ap length means.written ∙ counted m
 
-  found_value : is_value (answer cs) ≡ true → Value m
+  pub found_value : is_value (answer cs) ≡ true → Value m
   found_value e = (search_is_reduction.value cs m means).0 (value_answered (answer cs) e)
 
-  value_found : Value m → is_value (answer cs) ≡ true
+  pub value_found : Value m → is_value (answer cs) ≡ true
   value_found v = ap is_value ((search_is_reduction.value cs m means).1 v)
 
 either_below : (v n w l : ℕ) → ((nat_lt v n || nat_lt w l) ≡ true) ↔ ((v < n) ⊎ (w < l))

@@ -1,9 +1,8 @@
 pub mod Accepted
 pub mod Advancing
-pub mod Copied
+pub mod Rooted
 pub mod Dropping
 pub mod Running
-pub mod Shots
 pub mod Keeping
 pub mod Loaded
 pub mod Asked
@@ -12,3 +11,4 @@ pub mod Collected
 pub mod Stepping
 pub mod Ran
 pub mod Calls
+pub mod Same

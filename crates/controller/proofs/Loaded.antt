@@ -37,12 +37,8 @@ use Rattle.controller.specs.Keeping.{Holds as HoldsTerm, Stands, Kept, place_of,
 use Rattle.controller.proofs.Accepted.{stored}
 use Rattle.controller.proofs.Keeping.{stays, leads, loaded_stands}
 
--- every gate that the term names is made
-abbrev AllMade : (Gate → Bool) → Term ℕ → Type 0
-AllMade makes m = (u : Gate) → NamesGate u m → makes u ≡ true
-
 -- Cells that are no gate's pass, and a gate's cell passes if the gate is made.
-const_made : (makes : Gate → Bool) (c : ℕ) (k : Const) → ((u : Gate) → NamesGate u (const c k) → makes u ≡ true) → is_made makes (cell_of (const_op k) (const_argument k) c) ≡ true
+const_made : {C : Type 0} {d : C} (makes : Gate → Bool) (c : ℕ) (k : Const) → ((u : Gate) → NamesGate u (const d k) → makes u ≡ true) → is_made makes (cell_of (const_op k) (const_argument k) c) ≡ true
 const_made makes c (bit_of true) all = refl
 const_made makes c (bit_of false) all = refl
 const_made makes c meas all = refl
@@ -79,23 +75,23 @@ all_pass f (c ∷ cs) k e = by (f c) refl e (λ x. all_pass f cs (k + 1) x)
   where
     by : (b : Bool) → f c ≡ b → cond b (first_failing f cs (k + 1)) (Some k) ≡ None → (first_failing f cs (k + 1) ≡ None → AllPass f cs) → (f c ≡ true) × AllPass f cs
     by true q e more = (q, more e)
-    by false q e more = let z : ◌≡◌ {A = ℕ} 0 1 = cc in absurd (omega arith)
+    by false q e more = absurd (none-some k (sym e))
 
--- The cells of a term pass just where every gate that it names is made.
-cells_pass : (makes : Gate → Bool) (m : Term ℕ) → AllMade makes m → AllPass (is_made makes) (placed_cells m)
-cells_pass makes (var c (bound i)) all = (refl, tt)
-cells_pass makes (var c (held h)) all = (refl, tt)
-cells_pass makes (const c k) all = (const_made makes c k all, tt)
-cells_pass makes (star c) all = (refl, tt)
-cells_pass makes (lam c m) all = (refl, cells_pass makes m (λ u g. all u (gate_lam g)))
-cells_pass makes (app c m n) all = (refl, joined (is_made makes) (placed_cells m) (placed_cells n) (cells_pass makes m (λ u g. all u (gate_fun g))) (cells_pass makes n (λ u g. all u (gate_arg g))))
-cells_pass makes (pair c m n) all = (refl, joined (is_made makes) (placed_cells m) (placed_cells n) (cells_pass makes m (λ u g. all u (gate_left g))) (cells_pass makes n (λ u g. all u (gate_right g))))
-cells_pass makes (if_then_else c p m n) all = (
+-- The cells of a term pass just where every gate that it names is made, whatever its claims stand for.
+cells_pass : (makes : Gate → Bool) (f : ℕ → Ty) (m : Term ℕ) → ((u : Gate) → NamesGate u (reclaimed f m) → makes u ≡ true) → AllPass (is_made makes) (placed_cells m)
+cells_pass makes f (var c (bound i)) all = (refl, tt)
+cells_pass makes f (var c (held h)) all = (refl, tt)
+cells_pass makes f (const c k) all = (const_made makes c k all, tt)
+cells_pass makes f (star c) all = (refl, tt)
+cells_pass makes f (lam c m) all = (refl, cells_pass makes f m (λ u g. all u (gate_lam g)))
+cells_pass makes f (app c m n) all = (refl, joined (is_made makes) (placed_cells m) (placed_cells n) (cells_pass makes f m (λ u g. all u (gate_fun g))) (cells_pass makes f n (λ u g. all u (gate_arg g))))
+cells_pass makes f (pair c m n) all = (refl, joined (is_made makes) (placed_cells m) (placed_cells n) (cells_pass makes f m (λ u g. all u (gate_left g))) (cells_pass makes f n (λ u g. all u (gate_right g))))
+cells_pass makes f (if_then_else c p m n) all = (
   refl,
-  joined (is_made makes) (placed_cells p) (placed_cells m ++ placed_cells n) (cells_pass makes p (λ u g. all u (gate_test g)))
-      (joined (is_made makes) (placed_cells m) (placed_cells n) (cells_pass makes m (λ u g. all u (gate_then g))) (cells_pass makes n (λ u g. all u (gate_else g)))),
+  joined (is_made makes) (placed_cells p) (placed_cells m ++ placed_cells n) (cells_pass makes f p (λ u g. all u (gate_test g)))
+      (joined (is_made makes) (placed_cells m) (placed_cells n) (cells_pass makes f m (λ u g. all u (gate_then g))) (cells_pass makes f n (λ u g. all u (gate_else g)))),
 )
-cells_pass makes (let_pair c m n) all = (refl, joined (is_made makes) (placed_cells m) (placed_cells n) (cells_pass makes m (λ u g. all u (gate_pair g))) (cells_pass makes n (λ u g. all u (gate_body g))))
+cells_pass makes f (let_pair c m n) all = (refl, joined (is_made makes) (placed_cells m) (placed_cells n) (cells_pass makes f m (λ u g. all u (gate_pair g))) (cells_pass makes f n (λ u g. all u (gate_body g))))
 
 gate_passes : (makes : Gate → Bool) (c : ℕ) (u : Gate) → is_made makes (cell_of 103 (const_argument (gate u)) c) ≡ makes u
 gate_passes makes c H = refl
@@ -107,60 +103,29 @@ gate_passes makes c Cnot = refl
 gate_passes makes c Swap = refl
 gate_passes makes c Toffoli = refl
 
-gates_made : (makes : Gate → Bool) (m : Term ℕ) → AllPass (is_made makes) (placed_cells m) → AllMade makes m
-gates_made makes (var c x) p u g = elim g [ ]
-gates_made makes (const c k) p u gate_here = sym (gate_passes makes c u) ∙ p.0
-gates_made makes (star c) p u g = elim g [ ]
-gates_made makes (lam c m) p u (gate_lam g) = gates_made makes m (p.1) u g
-gates_made makes (app c m n) p u (gate_fun g) = gates_made makes m ((parted (is_made makes) (placed_cells m) (placed_cells n) (p.1)).0) u g
-gates_made makes (app c m n) p u (gate_arg g) = gates_made makes n ((parted (is_made makes) (placed_cells m) (placed_cells n) (p.1)).1) u g
-gates_made makes (pair c m n) p u (gate_left g) = gates_made makes m ((parted (is_made makes) (placed_cells m) (placed_cells n) (p.1)).0) u g
-gates_made makes (pair c m n) p u (gate_right g) = gates_made makes n ((parted (is_made makes) (placed_cells m) (placed_cells n) (p.1)).1) u g
-gates_made makes (if_then_else c p m n) q u (gate_test g) = gates_made makes p ((parted (is_made makes) (placed_cells p) (placed_cells m ++ placed_cells n) (q.1)).0) u g
-gates_made makes (if_then_else c p m n) q u (gate_then g) =
-    gates_made makes m ((parted (is_made makes) (placed_cells m) (placed_cells n) ((parted (is_made makes) (placed_cells p) (placed_cells m ++ placed_cells n) (q.1)).1)).0) u g
-gates_made makes (if_then_else c p m n) q u (gate_else g) =
-    gates_made makes n ((parted (is_made makes) (placed_cells m) (placed_cells n) ((parted (is_made makes) (placed_cells p) (placed_cells m ++ placed_cells n) (q.1)).1)).1) u g
-gates_made makes (let_pair c m n) p u (gate_pair g) = gates_made makes m ((parted (is_made makes) (placed_cells m) (placed_cells n) (p.1)).0) u g
-gates_made makes (let_pair c m n) p u (gate_body g) = gates_made makes n ((parted (is_made makes) (placed_cells m) (placed_cells n) (p.1)).1) u g
-
--- What is read of a term's gates with its claims changed.
-gate_reclaimed : {C D : Type 0} (f : C → D) {u : Gate} (m : Term C) → NamesGate u m → NamesGate u (reclaimed f m)
-gate_reclaimed f (var c x) g = elim g [ ]
-gate_reclaimed f (const c k) gate_here = gate_here
-gate_reclaimed f (star c) g = elim g [ ]
-gate_reclaimed f (lam c m) (gate_lam g) = gate_lam (gate_reclaimed f m g)
-gate_reclaimed f (app c m n) (gate_fun g) = gate_fun (gate_reclaimed f m g)
-gate_reclaimed f (app c m n) (gate_arg g) = gate_arg (gate_reclaimed f n g)
-gate_reclaimed f (pair c m n) (gate_left g) = gate_left (gate_reclaimed f m g)
-gate_reclaimed f (pair c m n) (gate_right g) = gate_right (gate_reclaimed f n g)
-gate_reclaimed f (if_then_else c p m n) (gate_test g) = gate_test (gate_reclaimed f p g)
-gate_reclaimed f (if_then_else c p m n) (gate_then g) = gate_then (gate_reclaimed f m g)
-gate_reclaimed f (if_then_else c p m n) (gate_else g) = gate_else (gate_reclaimed f n g)
-gate_reclaimed f (let_pair c m n) (gate_pair g) = gate_pair (gate_reclaimed f m g)
-gate_reclaimed f (let_pair c m n) (gate_body g) = gate_body (gate_reclaimed f n g)
-
-gate_unclaimed : {C D : Type 0} (f : C → D) {u : Gate} (m : Term C) → NamesGate u (reclaimed f m) → NamesGate u m
-gate_unclaimed f (var c x) g = elim g [ ]
-gate_unclaimed f (const c k) gate_here = gate_here
-gate_unclaimed f (star c) g = elim g [ ]
-gate_unclaimed f (lam c m) (gate_lam g) = gate_lam (gate_unclaimed f m g)
-gate_unclaimed f (app c m n) (gate_fun g) = gate_fun (gate_unclaimed f m g)
-gate_unclaimed f (app c m n) (gate_arg g) = gate_arg (gate_unclaimed f n g)
-gate_unclaimed f (pair c m n) (gate_left g) = gate_left (gate_unclaimed f m g)
-gate_unclaimed f (pair c m n) (gate_right g) = gate_right (gate_unclaimed f n g)
-gate_unclaimed f (if_then_else c p m n) (gate_test g) = gate_test (gate_unclaimed f p g)
-gate_unclaimed f (if_then_else c p m n) (gate_then g) = gate_then (gate_unclaimed f m g)
-gate_unclaimed f (if_then_else c p m n) (gate_else g) = gate_else (gate_unclaimed f n g)
-gate_unclaimed f (let_pair c m n) (gate_pair g) = gate_pair (gate_unclaimed f m g)
-gate_unclaimed f (let_pair c m n) (gate_body g) = gate_body (gate_unclaimed f n g)
+gates_made : (makes : Gate → Bool) (f : ℕ → Ty) (m : Term ℕ) → AllPass (is_made makes) (placed_cells m) → (u : Gate) → NamesGate u (reclaimed f m) → makes u ≡ true
+gates_made makes f (var c x) p u g = elim g [ ]
+gates_made makes f (const c k) p u gate_here = sym (gate_passes makes c u) ∙ p.0
+gates_made makes f (star c) p u g = elim g [ ]
+gates_made makes f (lam c m) p u (gate_lam g) = gates_made makes f m (p.1) u g
+gates_made makes f (app c m n) p u (gate_fun g) = gates_made makes f m ((parted (is_made makes) (placed_cells m) (placed_cells n) (p.1)).0) u g
+gates_made makes f (app c m n) p u (gate_arg g) = gates_made makes f n ((parted (is_made makes) (placed_cells m) (placed_cells n) (p.1)).1) u g
+gates_made makes f (pair c m n) p u (gate_left g) = gates_made makes f m ((parted (is_made makes) (placed_cells m) (placed_cells n) (p.1)).0) u g
+gates_made makes f (pair c m n) p u (gate_right g) = gates_made makes f n ((parted (is_made makes) (placed_cells m) (placed_cells n) (p.1)).1) u g
+gates_made makes f (if_then_else c p m n) q u (gate_test g) = gates_made makes f p ((parted (is_made makes) (placed_cells p) (placed_cells m ++ placed_cells n) (q.1)).0) u g
+gates_made makes f (if_then_else c p m n) q u (gate_then g) =
+    gates_made makes f m ((parted (is_made makes) (placed_cells m) (placed_cells n) ((parted (is_made makes) (placed_cells p) (placed_cells m ++ placed_cells n) (q.1)).1)).0) u g
+gates_made makes f (if_then_else c p m n) q u (gate_else g) =
+    gates_made makes f n ((parted (is_made makes) (placed_cells m) (placed_cells n) ((parted (is_made makes) (placed_cells p) (placed_cells m ++ placed_cells n) (q.1)).1)).1) u g
+gates_made makes f (let_pair c m n) p u (gate_pair g) = gates_made makes f m ((parted (is_made makes) (placed_cells m) (placed_cells n) (p.1)).0) u g
+gates_made makes f (let_pair c m n) p u (gate_body g) = gates_made makes f n ((parted (is_made makes) (placed_cells m) (placed_cells n) (p.1)).1) u g
 
 -- The first cell of the term that names a gate which is not made: none, just where every gate that the term names is made.
 pub unmade_none : (makes : Gate → Bool) (m : Term ℕ) (f : ℕ → Ty) → ((u : Gate) → NamesGate u (reclaimed f m) → makes u ≡ true) → first_unmade makes (placed_cells m) ≡ None
-unmade_none makes m f all = none_fails (is_made makes) (placed_cells m) 0 (cells_pass makes m (λ u g. all u (gate_reclaimed f m g)))
+unmade_none makes m f all = none_fails (is_made makes) (placed_cells m) 0 (cells_pass makes f m all)
 
 pub unmade_some : (makes : Gate → Bool) (m : Term ℕ) (f : ℕ → Ty) → first_unmade makes (placed_cells m) ≡ None → (u : Gate) → NamesGate u (reclaimed f m) → makes u ≡ true
-unmade_some makes m f e u g = gates_made makes m (all_pass (is_made makes) (placed_cells m) 0 e) u (gate_unclaimed f m g)
+unmade_some makes m f e u g = gates_made makes f m (all_pass (is_made makes) (placed_cells m) 0 e) u g
 
 -- What runs is the term without its claims, and its type is what its root claims.
 allowed_unclaimed : (cs : List TermCell) → every allowed (unclaimed cs) ≡ every allowed cs

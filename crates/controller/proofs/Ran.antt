@@ -1,32 +1,25 @@
 -- A call of run keeps the invariant, by what the member of a row does: it is its steps, and it stops for the reason that it tells.
-use Rattle.std.proofs.Common.{◌≡◌, ℕ, zero, suc, ◌+◌, ◌<◌, ◌≤◌, Bool, true, false, cond, ◌⊎◌, ◌↔◌, List, [], ◌∷◌, length, nat_lt, nat_le, Some, None, Option, Ok, Err, Result, sym, refl, ap, ◌∙◌, subst, inl, inr, arith, ◌==◌}
-use Rattle.calculus.specs.declared.cells.TermCell.{TermCell}
+use Rattle.std.proofs.Common.{◌≡◌, ℕ, suc, ◌≤◌, false, length, Some, None, Option, Ok, Err, sym, refl, ap, ◌∙◌, subst, arith}
 use Rattle.calculus.specs.Types.{Ty}
 use Rattle.calculus.specs.Terms.{Running}
-use Rattle.calculus.specs.Reduction.{Value}
 use Rattle.registers.specs.Meaning.{Meaning, Changes, Fresh}
-use Rattle.finder.specs.Finding.{answer}
-use Rattle.finder.specs.declared.works.Rule.{Rule}
-use Rattle.finder.specs.declared.works.FindFault.{FindFault}
 use Rattle.rows.proofs.Sound.{some_none}
-use Rattle.finder.proofs.Reduction.{search_is_reduction}
+use Rattle.std.proofs.lemmas.Bool.{false≢true}
 use Rattle.rows.specs.Members.{step, run}
-use Rattle.rows.specs.Places.{Place, New}
+use Rattle.rows.specs.Places.{Place}
 use Rattle.rows.specs.Refusing.{most_cells, Runs, nothing_to_run, short_to_run, Refused}
 use Rattle.rows.specs.Doing.{Many, no_more, one_more, Stops, at_value, at_budget, at_refusal, Does, refused, steps, runs}
-use Rattle.rows.specs.Rows.{Reached, at_start, then_does}
+use Rattle.rows.specs.Rows.{then_does}
 use Rattle.controller.specs.declared.faults.ControllerFault.{ControllerFault}
-use Rattle.controller.specs.declared.faults.ControllerFault.TheVariants.{NothingLoaded, ShortTable}
 use Rattle.controller.specs.declared.faults.Stop.{Stop}
 use Rattle.controller.specs.declared.faults.Stop.TheVariants.{Value as ValueStop, Budget, Refused as RefusedStop}
 use Rattle.controller.specs.Asking.{Told}
 use Rattle.controller.specs.Faults.{ready_answer}
-use Rattle.controller.specs.Shots.{Held, nothing_held}
+use Rattle.controller.specs.Shots.{Held}
 use Rattle.controller.specs.Stepping.{Made, stepped, held_after}
-use Rattle.controller.specs.Running.{Standing, Comes, after_step, Ran, none_made, one_more_made, Stopped}
-use Rattle.controller.specs.Unloading.{is_value}
-use Rattle.controller.specs.Keeping.{Holds, Stands, place, Kept, place_of, Keeps}
-use Rattle.controller.proofs.Keeping.{loaded_stands}
+use Rattle.controller.specs.Running.{Standing, Comes, Ran, none_made, one_more_made, Stopped}
+use Rattle.controller.specs.Keeping.{Holds, Stands, Kept, place_of, Keeps}
+use Rattle.controller.proofs.Collected.{found_value, value_found}
 use Rattle.controller.proofs.Stepped.{stepping}
 use Rattle.controller.proofs.Stepping.{StepKeeps, after_stepping, kept_term}
 
@@ -98,22 +91,10 @@ module _ {C : Type 0} (changes : Changes C) where
           move : (r : Meaning C) → r ≡ b.register → ((k : Kept changes b.shot r) → k.loaded ≡ Some (m, a) → Refused (place_of k) (step most_cells)) → Refused (place_of k) (step most_cells)
           move r e g = subst (λ (r : Meaning C). (k : Kept changes b.shot r) → k.loaded ≡ Some (m, a) → Refused (place_of k) (step most_cells)) e g k q
 
-  -- the finder calls a value what is one
-  value_is : {h : Held} (m : Running) (a : Ty) → Holds h m a → is_value (answer h.cells) ≡ true → Value m
-  value_is {h = h} m a s e = (search_is_reduction.value h.cells m s.means).0 (only (answer h.cells) e)
-    where
-      only : (x : Result (Option (Rule × ℕ)) FindFault) → is_value x ≡ true → x ≡ Ok None
-      only (Ok None) e = refl
-      only (Ok (Some y)) e = absurd (let z : ◌≡◌ {A = ℕ} 0 1 = cc in omega arith)
-      only (Err f) e = absurd (let z : ◌≡◌ {A = ℕ} 0 1 = cc in omega arith)
-
-  no_value : {h : Held} (m : Running) (a : Ty) → Holds h m a → is_value (answer h.cells) ≡ false → Value m → ⊥
-  no_value {h = h} m a s e v = let z : ◌≡◌ {A = Bool} true false = sym (ap is_value ((search_is_reduction.value h.cells m s.means).1 v)) ∙ e in let y : ◌≡◌ {A = ℕ} 0 1 = cc in omega arith
-
   stops : (budget made : ℕ) (b : Standing C) (k : Kept changes b.shot b.register) (m : Running) (a : Ty) → k.loaded ≡ Some (m, a) → (x : Stop) → Stopped changes budget made b x → Stops changes budget made (place_of k)
-  stops budget made b k m a q ValueStop e = at_value q (value_is m a (held_by m a k.stands q) e)
-  stops budget made b k m a q Budget e = at_budget q (no_value m a (held_by m a k.stands q) e.0) e.1
-  stops budget made b k m a q (RefusedStop f n) e = at_refusal q (no_value m a (held_by m a k.stands q) e.0) e.1 (comes_refused b f k m a q e.2)
+  stops budget made b k m a q ValueStop e = at_value q (found_value b.shot.cells m (held_by m a k.stands q).means e)
+  stops budget made b k m a q Budget e = at_budget q (λ v. false≢true (sym e.0 ∙ value_found b.shot.cells m (held_by m a k.stands q).means v)) e.1
+  stops budget made b k m a q (RefusedStop f n) e = at_refusal q (λ v. false≢true (sym e.0 ∙ value_found b.shot.cells m (held_by m a k.stands q).means v)) e.1 (comes_refused b f k m a q e.2)
 
   -- A call of run that is accepted.
   pub run_made : (budget made : ℕ) (a b : Standing C) (x : Stop) (k : Kept changes a.shot a.register) → ready_answer (length a.shot.cells) (length a.work) ≡ Ok tt

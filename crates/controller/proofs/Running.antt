@@ -1,12 +1,11 @@
 -- A run makes one step more, or stops at one that is refused.
-use Rattle.std.proofs.Common.{◌≡◌, ℕ, suc, ◌+◌, ◌≤◌, Bool, false, List, Ok, Err, Option, Result, sym, refl, ap, ◌∙◌, subst, arith}
+use Rattle.std.proofs.Common.{◌≡◌, ℕ, suc, ◌+◌, ◌≤◌, false, List, Ok, Err, Option, Result, sym, refl, ap, ◌∙◌, subst, arith}
 use Rattle.std.proofs.lemmas.Bool.Decides.{nat_tests}
 use Rattle.calculus.specs.declared.cells.TermCell.{TermCell}
 use Rattle.finder.specs.declared.works.Rule.{Rule}
 use Rattle.finder.specs.declared.works.FindFault.{FindFault}
 use Rattle.finder.specs.Finding.{answer}
-use Rattle.registers.specs.declared.fault.RegisterReason.{RegisterReason}
-use Rattle.registers.specs.Meaning.{Meaning, Changes, Owed}
+use Rattle.registers.specs.declared.register.Register.{Ghosts}
 use Rattle.controller.specs.declared.faults.ControllerFault.{ControllerFault}
 use Rattle.controller.specs.declared.shot.Shot.{Shot}
 use Rattle.controller.specs.Asking.{told}
@@ -32,38 +31,37 @@ counted_err (Err g) f e = let q : g ≡ f = cc in ap Err q
 pub ready_room : (cells room : ℕ) → Ok tt ≡ ready_answer cells room → 1024 ≤ room
 ready_room cells room e = grind (arith, nat_tests)
 
-module _ {R C : Type 0} (changes : Changes C) (meaning : R → Meaning C) (depth : R → RegisterReason → ℕ) (fresh : R → ℕ) (outcome : R → ℕ → Bool)
-    (owed : (r : R) → Owed (meaning r) (fresh r)) (s s' : Shot) (r r' : R) (w w' : List TermCell) (found : Result (Option (Rule × ℕ)) FindFault) where
-  abbrev Took : Result (Made C) ControllerFault
-  Took = taken changes (told meaning depth fresh outcome r) (held s).cells found
+module _ {R : Type 0} (kind : Ghosts R) (s s' : Shot) (r r' : R) (w w' : List TermCell) (found : Result (Option (Rule × ℕ)) FindFault) where
+  abbrev Took : Result (Made kind.Content) ControllerFault
+  Took = taken kind.changes (told kind r) (held s).cells found
 
-  comes : (x : Result (Made C) ControllerFault) → found ≡ answer (held s).cells → Took ≡ x → Comes changes (standing meaning s r w) x
+  comes : (x : Result (Made kind.Content) ControllerFault) → found ≡ answer (held s).cells → Took ≡ x → Comes kind.changes (standing kind s r w) x
   comes x e q = record {
-    told = told meaning depth fresh outcome r;
+    told = told kind r;
     meaning = refl;
-    owed = owed r;
-    step = ap (taken changes (told meaning depth fresh outcome r) (held s).cells) (sym e) ∙ q;
+    owed = kind.owed r;
+    step = ap (taken kind.changes (told kind r) (held s).cells) (sym e) ∙ q;
   }
 
-  pub run_goes_on : (a : Standing C) (made n : ℕ) → found ≡ answer (held s).cells → Ok n ≡ count_made Took → StepLeaves meaning Took s s' r r' w w'
-      → Ran changes a made (standing meaning s r w) → Ran changes a (made + 1) (standing meaning s' r' w')
+  pub run_goes_on : (a : Standing kind.Content) (made n : ℕ) → found ≡ answer (held s).cells → Ok n ≡ count_made Took → StepLeaves kind Took s s' r r' w w'
+      → Ran kind.changes a made (standing kind s r w) → Ran kind.changes a (made + 1) (standing kind s' r' w')
   run_goes_on a made n e c l ran = go (counted_ok Took n c)
     where
-      go : (t : Made C) × (Took ≡ Ok t) → Ran changes a (made + 1) (standing meaning s' r' w')
+      go : (t : Made kind.Content) × (Took ≡ Ok t) → Ran kind.changes a (made + 1) (standing kind s' r' w')
       go (t, q) =
-          let p = subst (λ x. StepLeaves meaning x s s' r r' w w') q l in
-          let b : standing meaning s' r' w' ≡ after_step changes (standing meaning s r w) t = cc in
+          let p = subst (λ x. StepLeaves kind x s s' r r' w w') q l in
+          let b : standing kind s' r' w' ≡ after_step kind.changes (standing kind s r w) t = cc in
           let k : suc made ≡ made + 1 = omega arith in
-          subst (λ k. Ran changes a k (standing meaning s' r' w')) k (one_more_made ran (comes (Ok t) e q) b)
+          subst (λ k. Ran kind.changes a k (standing kind s' r' w')) k (one_more_made ran (comes (Ok t) e q) b)
 
-  pub run_refused : (a : Standing C) (made : ℕ) (f : ControllerFault) → found ≡ answer (held s).cells → is_value found ≡ false → Err f ≡ count_made Took → StepLeaves meaning Took s s' r r' w w'
-      → Ran changes a made (standing meaning s r w)
-      → Ran changes a made (standing meaning s' r' w') × (is_value (answer (held s').cells) ≡ false) × Comes changes (standing meaning s' r' w') (Err f)
+  pub run_refused : (a : Standing kind.Content) (made : ℕ) (f : ControllerFault) → found ≡ answer (held s).cells → is_value found ≡ false → Err f ≡ count_made Took → StepLeaves kind Took s s' r r' w w'
+      → Ran kind.changes a made (standing kind s r w)
+      → Ran kind.changes a made (standing kind s' r' w') × (is_value (answer (held s').cells) ≡ false) × Comes kind.changes (standing kind s' r' w') (Err f)
   run_refused a made f e v c l ran =
       let q = counted_err Took f c in
-      let p = subst (λ x. StepLeaves meaning x s s' r r' w w') q l in
-      let b : standing meaning s r w ≡ standing meaning s' r' w' = cc in (
-        subst (λ y. Ran changes a made y) b ran,
+      let p = subst (λ x. StepLeaves kind x s s' r r' w w') q l in
+      let b : standing kind s r w ≡ standing kind s' r' w' = cc in (
+        subst (λ y. Ran kind.changes a made y) b ran,
         ap (λ x. is_value (answer (held x).cells)) p.0 ∙ ap is_value (sym e) ∙ v,
-        subst (λ y. Comes changes y (Err f)) b (comes (Err f) e q),
+        subst (λ y. Comes kind.changes y (Err f)) b (comes (Err f) e q),
       )

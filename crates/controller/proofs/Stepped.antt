@@ -1,10 +1,10 @@
 -- The step on cells is the step of a row: the term reduces, the register acts, and what is named no more is let go; or the sheet refuses it.
-use Rattle.std.proofs.Common.{◌≡◌, ℕ, zero, suc, ◌<◌, ◌≤◌, Bool, true, false, cond, ◌⊎◌, ◌↔◌, List, [], ◌∷◌, length, drop, get_or, set, nat_lt, nat_le, Some, None, Option, Ok, Err, Result, sym, refl, ap, ◌∙◌, ap₂, subst, inl, inr, ⊎_elim, arith}
+use Rattle.std.proofs.Common.{◌≡◌, ℕ, ◌<◌, ◌≤◌, Bool, true, false, cond, ◌↔◌, List, [], ◌∷◌, length, drop, get_or, nat_lt, nat_le, Some, Option, Ok, Err, Result, sym, refl, ap, ◌∙◌, subst, inl, inr, ⊎_elim, arith}
 use Rattle.calculus.specs.declared.cells.TermCell.{TermCell}
 use Rattle.calculus.specs.Types.{Ty}
-use Rattle.calculus.specs.Terms.{Running, held, size}
+use Rattle.calculus.specs.Terms.{Running, size}
 use Rattle.calculus.specs.Cells.{cell_of, running_cells, unclaimed}
-use Rattle.calculus.specs.Names.{Names, WellTyped, In}
+use Rattle.calculus.specs.Names.{Names, In, Rising}
 use Rattle.calculus.specs.Reduction.{Value, Effect, silent, prepares, reads, applies, Reduces, apply_function, open_pair, take_then, take_else, prepare_qubit, read_qubit, apply_gate, in_argument, in_function, in_left, in_right, in_condition, in_pair}
 use Rattle.calculus.specs.Safety.{Goes, Alike, alike_silent, alike_prepares, alike_reads, alike_applies}
 use Rattle.calculus.proofs.Requests.{one_request}
@@ -16,7 +16,7 @@ use Rattle.registers.specs.declared.fault.RegisterReason.TheVariants.{NoPulses, 
 use Rattle.registers.specs.declared.fault.RegisterFault.{RegisterFault}
 use Rattle.registers.specs.Meaning.{Meaning, Changes, Live, Fresh, counted, after_prepare, after_read, after_let_go}
 use Rattle.registers.specs.Answers.{number_of, prepare_answer, gate_answer, read_answer}
-use Rattle.registers.specs.Sheet.{Call, to_prepare, to_gate, to_read, Spends, Prepares, Exact, reason_of}
+use Rattle.registers.specs.Sheet.{Call, to_prepare, to_gate, to_read, Exact, reason_of}
 use Rattle.registers.specs.Sheet.{Holds as SheetHolds}
 use Rattle.registers.proofs.Sheet.{refusals_are_exact}
 use Rattle.finder.specs.Finding.{answer}
@@ -25,8 +25,7 @@ use Rattle.finder.specs.Steps.{step_rule, step_cell}
 use Rattle.finder.specs.declared.works.Rule.{Rule}
 use Rattle.finder.proofs.Reduction.{search_is_reduction}
 use Rattle.stepper.specs.Laws.{Closed, answer_of, Fits, fits_function, fits_pair, fits_then, fits_else, fits_prepare, fits_read, fits_gates, Answered}
-use Rattle.stepper.specs.Names.{Rising}
-use Rattle.stepper.specs.Naming.{names}
+use Rattle.stepper.specs.Naming.{dropped, names}
 use Rattle.stepper.specs.Next.{next_cells}
 use Rattle.stepper.specs.declared.writing.Answer.{Answer}
 use Rattle.stepper.specs.declared.writing.Answer.TheVariants.{Nothing, Handle, Outcome}
@@ -34,29 +33,24 @@ use Rattle.stepper.proofs.Dropped.{names_laws}
 use Rattle.stepper.proofs.Steps.{step_laws}
 use Rattle.rows.specs.Members.{step}
 use Rattle.rows.specs.Places.{Place}
-use Rattle.rows.specs.Asking.{call_of, Calls, asks, drops, SpendsPulse, PreparesQubit, Overflows}
+use Rattle.rows.specs.Asking.{call_of, asks, drops, SpendsPulse, PreparesQubit, Overflows}
 use Rattle.rows.specs.Refusing.{most_cells, step_of_value, too_long, register_refuses, Refused}
 use Rattle.rows.specs.Stepping.{Accepts, Acts, without, Steps}
-use Rattle.rows.specs.Stepping.{Rising as RowRising}
 use Rattle.rows.proofs.Lists.{lit_after_false, lit_within}
-use Rattle.rows.proofs.Kept.{KeptTerm, Acted, acted, prepare_room}
+use Rattle.rows.proofs.Kept.{KeptTerm, acted, prepare_room}
 use Rattle.rows.proofs.Sound.{only_want}
 use Rattle.rows.proofs.Wants.{none_some}
 use Rattle.rows.proofs.Names.{asked_named}
 use Rattle.calculus.specs.declared.gates.Gate.{Gate}
 use Rattle.rows.proofs.Steps.{value_or_goes}
-use Rattle.rows.proofs.Going.{first, no_value}
+use Rattle.rows.proofs.Going.{first}
 use Rattle.controller.specs.declared.faults.ControllerFault.{ControllerFault}
-use Rattle.controller.specs.declared.faults.ControllerFault.TheVariants.{AtValue, NoRule, TooLong, Register}
+use Rattle.controller.specs.declared.faults.ControllerFault.TheVariants.{NoRule, TooLong}
 use Rattle.controller.specs.Asking.{Told, passed, asked, after_asked}
-use Rattle.controller.specs.Letting.{dropped, released, released_all}
+use Rattle.controller.specs.Letting.{released, released_all}
 use Rattle.controller.specs.Stepping.{Made, made, made_or_fault, advanced, taken, stepped}
 use Rattle.controller.specs.Keeping.{place}
 use Rattle.controller.proofs.Asked.{Within, Reads, redex_reads, asked_by, after_by, rule_asks, rule_makes}
-
-rising_as : (hs : List ℕ) → Rising hs → RowRising hs
-rising_as [] r = tt
-rising_as (h ∷ hs) r = (r.0, rising_as hs r.1)
 
 -- Handles that are live are let go of, one after the other.
 module _ {C : Type 0} (changes : Changes C) where
@@ -169,7 +163,7 @@ module _ {C : Type 0} (changes : Changes C) (t : Told C) (free : Fresh t.meaning
       between = mid;
       acts = acts;
       dropped = gone;
-      rising = rising_as gone rises;
+      rising = rises;
       dropped_are = are;
       after = released_without changes gone mid rises live;
     };

@@ -1,21 +1,20 @@
 -- A call of step keeps the invariant, by what the member of a row does.
-use Rattle.std.proofs.Common.{◌≡◌, ℕ, zero, suc, ◌<◌, ◌≤◌, Bool, true, false, cond, ◌⊎◌, ◌↔◌, List, [], ◌∷◌, length, nat_lt, nat_le, Some, None, Option, Ok, Err, Result, is_err, sym, refl, ap, ◌∙◌, subst, inl, inr, arith, ◌==◌}
-use Rattle.calculus.specs.declared.cells.TermCell.{TermCell}
+use Rattle.std.proofs.Common.{◌≡◌, ℕ, ◌≤◌, Bool, true, false, length, nat_lt, Some, None, Option, Ok, Err, Result, sym, refl, ap, ◌∙◌, subst, arith, ◌==◌}
 use Rattle.calculus.specs.Types.{Ty}
 use Rattle.calculus.specs.Terms.{Running}
 use Rattle.registers.specs.Meaning.{Meaning, Changes, Fresh}
 use Rattle.rows.specs.Members.{step}
-use Rattle.rows.specs.Places.{Place, New}
+use Rattle.rows.specs.Places.{Place}
 use Rattle.rows.specs.Refusing.{nothing_to_step, short_to_step, Refused}
 use Rattle.rows.specs.Doing.{Does, steps, one_more, no_more}
 use Rattle.rows.specs.Rows.{Reached, at_start, then_does}
 use Rattle.rows.proofs.Kept.{KeptTerm, kept_loaded, new, does}
 use Rattle.rows.proofs.Kept.{Kept as PlaceKept}
 use Rattle.controller.specs.declared.faults.ControllerFault.{ControllerFault}
-use Rattle.controller.specs.declared.faults.ControllerFault.TheVariants.{NothingLoaded, ShortTable}
+use Rattle.controller.specs.declared.faults.ControllerFault.TheVariants.{ShortTable}
 use Rattle.controller.specs.Asking.{Told}
 use Rattle.controller.specs.Faults.{ready_answer}
-use Rattle.controller.specs.Shots.{Held, nothing_held}
+use Rattle.controller.specs.Shots.{Held}
 use Rattle.controller.specs.Stepping.{Made, stepped, once_ready, step_made, held_after}
 use Rattle.controller.specs.Keeping.{Holds, Stands, place, Kept, place_of, Keeps}
 use Rattle.controller.proofs.Keeping.{loaded_stands}

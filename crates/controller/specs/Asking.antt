@@ -10,6 +10,7 @@ use Rattle.finder.specs.declared.works.Rule.{Rule}
 use Rattle.finder.specs.declared.works.Rule.TheVariants.{Function, Pair, Then, Else, Prepare, Read, Gates}
 use Rattle.registers.specs.declared.fault.RegisterReason.{RegisterReason}
 use Rattle.registers.specs.declared.fault.RegisterFault.{RegisterFault}
+use Rattle.registers.specs.declared.register.Register.{Ghosts}
 use Rattle.registers.specs.Meaning.{Meaning, Changes, after_prepare, after_gate, after_read}
 use Rattle.registers.specs.Answers.{prepare_answer, gate_answer, read_answer}
 use Rattle.stepper.specs.declared.writing.Answer.{Answer}
@@ -59,8 +60,8 @@ pub record Told (C : Type 0) : Type 0 where
   pub fresh : ℕ
   pub outcome : ℕ → Bool
 
-abbrev pub told : {R C : Type 0} → (R → Meaning C) → (R → RegisterReason → ℕ) → (R → ℕ) → (R → ℕ → Bool) → R → Told C
-told meaning depth fresh outcome r = record { meaning = meaning r; depth = depth r; fresh = fresh r; outcome = outcome r }
+abbrev pub told : {R : Type 0} (kind : Ghosts R) → R → Told kind.Content
+told kind r = record { meaning = kind.meaning r; depth = kind.depth r; fresh = kind.fresh r; outcome = kind.outcome r }
 
 -- an answer as a step takes it, and a refusal entire
 abbrev pub passed : {A : Type 0} → (A → Answer) → Result A RegisterFault → Result Answer ControllerFault

@@ -1,11 +1,6 @@
 -- The qubits that a step lets go.
-use Rattle.std.specs.Prelude.{ℕ, Bool, false, cond, not, ◌&&◌, List, [], ◌∷◌, slice_index_or}
-use Rattle.std.specs.List.{filter, range_with_len}
+use Rattle.std.specs.Prelude.{ℕ, false, cond, List, [], ◌∷◌, slice_index_or}
 use Rattle.registers.specs.Meaning.{Meaning, Changes, after_let_go}
-
--- the handles that were named before and are not after, rising
-abbrev pub dropped : (ℕ → Bool) → (ℕ → Bool) → List ℕ
-dropped before after = filter (λ h. before h && not (after h)) (range_with_len 0 32)
 
 module _ {C : Type 0} (changes : Changes C) where
   -- the register after letting go of a handle; one that is not live is refused, which changes nothing

@@ -1,4 +1,5 @@
 pub mod Asking
+pub mod Calls
 pub mod Faults
 pub mod Keeping
 pub mod Letting

@@ -2,6 +2,7 @@
 use Rattle.std.specs.Prelude.{◌≡◌, ℕ, suc, ◌<◌, ◌≤◌, true, false, List, length, Ok, Err, Result}
 use Rattle.calculus.specs.declared.cells.TermCell.{TermCell}
 use Rattle.finder.specs.Finding.{answer}
+use Rattle.registers.specs.declared.register.Register.{Ghosts}
 use Rattle.registers.specs.Meaning.{Meaning, Changes, Owed}
 use Rattle.controller.specs.declared.faults.ControllerFault.{ControllerFault}
 use Rattle.controller.specs.declared.faults.Refusal.{Refusal}
@@ -21,8 +22,8 @@ pub record Standing (C : Type 0) : Type 0 where
   pub register : Meaning C
   pub work : List TermCell
 
-abbrev pub standing : {R C : Type 0} → (R → Meaning C) → Shot → R → List TermCell → Standing C
-standing meaning shot register work = record { shot = held shot; register = meaning register; work = work }
+abbrev pub standing : {R : Type 0} (kind : Ghosts R) → Shot → R → List TermCell → Standing kind.Content
+standing kind shot register work = record { shot = held shot; register = kind.meaning register; work = work }
 
 module _ {C : Type 0} (changes : Changes C) where
   -- A register with this meaning answers, and the step comes to this.

@@ -1,5 +1,5 @@
 -- What a shot holds, and what a load and an unload make of it.
-use Rattle.std.specs.Prelude.{ℕ, Bool, List, [], ◌∷◌, length, take, nat_lt}
+use Rattle.std.specs.Prelude.{ℕ, Bool, List, [], ◌∷◌, length, nat_lt}
 use Rattle.calculus.specs.declared.cells.TermCell.{TermCell}
 use Rattle.calculus.specs.declared.cells.TypeCell.{TypeCell}
 use Rattle.calculus.specs.Cells.{type_cells, cell_of, unclaimed}
@@ -13,7 +13,7 @@ pub record Held : Type 0 where
   pub steps : ℕ
 
 abbrev pub held : Shot → Held
-held s = record { cells = take s.len s.cells; kinds = take s.kind_len s.kinds; steps = s.steps }
+held s = record { cells = s.cells.items; kinds = s.kinds.items; steps = s.steps }
 
 abbrev pub nothing_held : Held
 nothing_held = record { cells = []; kinds = []; steps = 0 }

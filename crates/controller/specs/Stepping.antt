@@ -4,17 +4,18 @@ use Rattle.calculus.specs.declared.cells.TermCell.{TermCell}
 use Rattle.finder.specs.declared.works.Rule.{Rule}
 use Rattle.finder.specs.declared.works.FindFault.{FindFault}
 use Rattle.finder.specs.Finding.{answer}
+use Rattle.registers.specs.declared.register.Register.{Ghosts}
 use Rattle.registers.specs.Meaning.{Meaning, Changes}
 use Rattle.stepper.specs.declared.writing.Answer.{Answer}
 use Rattle.stepper.specs.declared.writing.Answer.TheVariants.{Nothing}
-use Rattle.stepper.specs.Naming.{names}
+use Rattle.stepper.specs.Naming.{dropped, names}
 use Rattle.stepper.specs.Next.{next_cells}
 use Rattle.controller.specs.declared.faults.ControllerFault.{ControllerFault}
 use Rattle.controller.specs.declared.faults.ControllerFault.TheVariants.{AtValue, NoRule, TooLong}
 use Rattle.controller.specs.declared.faults.Refusal.{Refusal}
 use Rattle.controller.specs.Asking.{Told, asked, after_asked}
 use Rattle.controller.specs.Faults.{ready_answer, refused}
-use Rattle.controller.specs.Letting.{dropped, released_all}
+use Rattle.controller.specs.Letting.{released_all}
 use Rattle.controller.specs.Shots.{Held, held}
 use Rattle.controller.specs.Tables.{begun_with}
 use Rattle.controller.specs.declared.shot.Shot.{Shot}
@@ -66,10 +67,10 @@ count_made (Ok t) = Ok (length t.cells)
 count_made (Err f) = Err f
 
 -- What a step leaves: all as it was where it is refused.
-abbrev pub StepLeaves : {R C : Type 0} → (R → Meaning C) → Result (Made C) ControllerFault → Shot → Shot → R → R → List TermCell → List TermCell → Type 0
-StepLeaves meaning (Ok t) shot shot' register register' work work' =
-    (held shot' ≡ held_after (held shot) t) × (meaning register' ≡ t.register) × (work' ≡ begun_with t.cells work)
-StepLeaves meaning (Err f) shot shot' register register' work work' = (shot' ≡ shot) × (register' ≡ register) × (work' ≡ work)
+abbrev pub StepLeaves : {R : Type 0} (kind : Ghosts R) → Result (Made kind.Content) ControllerFault → Shot → Shot → R → R → List TermCell → List TermCell → Type 0
+StepLeaves kind (Ok t) shot shot' register register' work work' =
+    (held shot' ≡ held_after (held shot) t) × (kind.meaning register' ≡ t.register) × (work' ≡ begun_with t.cells work)
+StepLeaves kind (Err f) shot shot' register register' work work' = (shot' ≡ shot) × (register' ≡ register) × (work' ≡ work)
 
 -- a call of step with a work table of so many cells
 abbrev pub once_ready : {A : Type 0} → Result (Unit {0}) ControllerFault → Result A ControllerFault → Result A ControllerFault

@@ -1,12 +1,19 @@
--- What abandoning and collecting answer, and what collecting writes.
-use Rattle.std.specs.Prelude.{ℕ, Bool, true, false, cond, not, ◌||◌, length, Some, None, Ok, Err, Option, Result, nat_lt}
+-- What abandoning and collecting answer, and what they leave.
+use Rattle.std.specs.Prelude.{◌≡◌, ℕ, Bool, true, false, cond, not, ◌||◌, length, Some, None, Ok, Err, Option, Result, nat_lt}
 use Rattle.finder.specs.declared.works.Rule.{Rule}
 use Rattle.finder.specs.declared.works.FindFault.{FindFault}
 use Rattle.finder.specs.Finding.{answer}
+use Rattle.registers.specs.declared.register.Register.{Ghosts}
+use Rattle.registers.specs.Meaning.{after_clear}
 use Rattle.controller.specs.declared.faults.ControllerFault.TheVariants.{NothingLoaded, NoValue, ShortTables}
 use Rattle.controller.specs.declared.faults.Refusal.{Refusal}
 use Rattle.controller.specs.Faults.{refused}
-use Rattle.controller.specs.Shots.{Held, is_loaded}
+use Rattle.controller.specs.declared.shot.Shot.{Shot}
+use Rattle.controller.specs.Shots.{Held, held, nothing_held, is_loaded}
+
+-- What ending a shot leaves: nothing is held, and the register is cleared.
+abbrev pub Ends : {R : Type 0} → Ghosts R → Shot → R → R → Type 0
+Ends kind shot' register register' = (held shot' ≡ nothing_held) × (kind.meaning register' ≡ after_clear kind.changes (kind.meaning register))
 
 abbrev pub abandon_answer : Held → Result (Unit {0}) Refusal
 abandon_answer h = cond (is_loaded h) (Ok tt) (refused NothingLoaded h.steps)

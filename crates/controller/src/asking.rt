@@ -1,95 +1,94 @@
 //! What a step asks of the register.
 
-ghost use Rattle.std.specs.Prelude.{◌≡◌, ◌+◌, ◌≤◌, false, cond, not, ◌&&◌, length, take, MatchResult, slice_index_or};
-ghost use Rattle.calculus.specs.Gates.{operands_of};
-ghost use Rattle.controller.specs.Asking.{asked, after_asked, cell_at, handle_of, gate_at, qubits_at, told};
-ghost use Rattle.controller.specs.Letting.{dropped, released, released_all};
+ghost use Rattle.std.specs.Prelude.{◌≡◌, ◌+◌, ◌≤◌, false, cond, not, ◌&&◌, MatchResult, slice_index_or};
+ghost use Rattle.registers.specs.Answers.{gate_answer};
+ghost use Rattle.registers.specs.Meaning.{after_gate};
+ghost use Rattle.controller.specs.Asking.{asked, after_asked, cell_at, handle_of, gate_asked, qubits_at, told};
+ghost use Rattle.controller.specs.Letting.{released, released_all};
+ghost use Rattle.stepper.specs.Naming.{dropped};
 
 use crate::faults::ControllerFault;
 use calculus::{Gate, HANDLES, TermCell};
 use finder::Rule;
-use registers::Register;
+use registers::{Register, RegisterFault};
 use stepper::Answer;
 
-// The cell at `at`, or a blank one past the end.
-fn cell_at(cells: &[TermCell], at: usize) -> TermCell
-    ensures { result ≡ cell_at cells.now at }
-{
-    if at < cells.len() {
-        cells[at]
-    } else {
-        TermCell {
-            op: '\0',
-            argument: 0,
-            claim: 0,
+/// A redex: the cells of a running term, and the place of its first cell among them.
+#[derive(Drop)]
+pub struct Redex<'a> {
+    pub(crate) cells: &'a [TermCell],
+    pub(crate) at: usize,
+    ghost within: { at ≤ 1024 },
+}
+
+impl<'a> Redex<'a> {
+    // The cell so many places on, or a blank one past the end.
+    fn cell(&self, place: usize) -> TermCell
+        requires { place ≤ 6 }
+        ensures { result ≡ cell_at self.now.cells.now (self.now.at + place) }
+    {
+        self.cells.get(self.at + place).copied().unwrap_or_default()
+    }
+
+    // The argument of the cell so many places on as a handle; what is none becomes a number that names no qubit.
+    fn handle(&self, place: usize) -> u8
+        requires { place ≤ 6 }
+        ensures { result ≡ handle_of (cell_at self.now.cells.now (self.now.at + place)) }
+    {
+        let argument = self.cell(place).argument;
+        if (argument as usize) < HANDLES {
+            argument as u8
+        } else {
+            u8::MAX
         }
     }
-}
 
-// The cell's argument as a handle; what is none becomes a number that names no qubit.
-fn handle_at(cells: &[TermCell], at: usize) -> u8
-    ensures { result ≡ handle_of (cell_at cells.now at) }
-{
-    let argument = cell_at(cells, at).argument;
-    if (argument as usize) < HANDLES {
-        argument as u8
-    } else {
-        u8::MAX
+    // The gate that the second cell names.
+    fn gate(&self) -> Gate
+        ensures { result ≡ gate_asked self.now.cells.now self.now.at }
+    {
+        Gate::try_from(self.cell(1).argument).unwrap_or(Gate::Toffoli)
     }
-}
 
-// The gate that a cell names.
-fn gate_at(cells: &[TermCell], at: usize) -> Gate
-    ensures { result ≡ gate_at cells.now at }
-{
-    match Gate::from_number(cell_at(cells, at).argument) {
-        Some(gate) => gate,
-        None => Gate::Toffoli,
-    }
-}
-
-// The qubits that a gate gets in the redex at `at`: one, a pair, or one and a pair, in front of what is left over.
-fn operands_at(cells: &[TermCell], gate: Gate, at: usize) -> [u8; 3]
-    requires { at ≤ 1024 }
-    ensures { take (operands_of gate) result ≡ qubits_at cells.now gate at }
-{
-    match gate {
-        Gate::Cnot | Gate::Swap => [handle_at(cells, at + 3), handle_at(cells, at + 4), 0],
-        Gate::Toffoli => [
-            handle_at(cells, at + 3),
-            handle_at(cells, at + 5),
-            handle_at(cells, at + 6),
-        ],
-        Gate::H | Gate::X | Gate::Z | Gate::S | Gate::T => [handle_at(cells, at + 2), 0, 0],
-    }
-}
-
-/// Asks the register for what the rule needs at a cell, and hands on its answer.
-pub fn ask<R: Register>(
-    register: &mut R,
-    cells: &[TermCell],
-    rule: Rule,
-    at: usize,
-) -> Result<Answer, ControllerFault>
-    requires { at ≤ 1024 }
-    ensures answer { result ≡ asked (told R.Register.meaning R.Register.depth R.Register.fresh R.Register.outcome register.old) cells.now rule at }
-    ensures state { MatchResult result
-        (λ _. R.Register.meaning register.new ≡ after_asked (told R.Register.meaning R.Register.depth R.Register.fresh R.Register.outcome register.old) cells.now R.Register.changes rule at)
-        (λ _. register.new ≡ register.old) }
-{
-    match rule {
-        Rule::Prepare => {
-            let bit = cell_at(cells, at + 2).op == '1';
-            Ok(Answer::Handle(register.prepare(bit)?))
+    // Applies the gate to its qubits: one, a pair, or one and a pair.
+    fn apply<R: Register>(&self, register: &mut R) -> Result<(), RegisterFault>
+        ensures answer { let u = gate_asked self.now.cells.now self.now.at in
+            result ≡ gate_answer (R.Register.meaning register.old) (R.Register.depth register.old) u (qubits_at self.now.cells.now u self.now.at) }
+        ensures state { let u = gate_asked self.now.cells.now self.now.at in MatchResult result
+            (λ _. R.Register.meaning register.new ≡ after_gate R.Register.changes (R.Register.meaning register.old) u (qubits_at self.now.cells.now u self.now.at))
+            (λ _. register.new ≡ register.old) }
+    {
+        let gate = self.gate();
+        match gate {
+            Gate::Cnot | Gate::Swap => register.gate(gate, &[self.handle(3), self.handle(4)]),
+            Gate::Toffoli => {
+                register.gate(gate, &[self.handle(3), self.handle(5), self.handle(6)])
+            },
+            Gate::H | Gate::X | Gate::Z | Gate::S | Gate::T => {
+                register.gate(gate, &[self.handle(2)])
+            },
         }
-        Rule::Read => Ok(Answer::Outcome(register.read(handle_at(cells, at + 2))?)),
-        Rule::Gates => {
-            let gate = gate_at(cells, at + 1);
-            let on = operands_at(cells, gate, at);
-            register.gate(gate, &on[0..gate.operands()])?;
-            Ok(Answer::Nothing)
+    }
+
+    /// Asks the register for what the rule needs, and hands on its answer.
+    pub fn ask<R: Register>(&self, register: &mut R, rule: Rule) -> Result<Answer, ControllerFault>
+        ensures answer { result ≡ asked (told R.Register register.old) self.now.cells.now rule self.now.at }
+        ensures state { MatchResult result
+            (λ _. R.Register.meaning register.new ≡ after_asked (told R.Register register.old) self.now.cells.now R.Register.changes rule self.now.at)
+            (λ _. register.new ≡ register.old) }
+    {
+        match rule {
+            Rule::Prepare => {
+                let bit = self.cell(2).op == '1';
+                Ok(Answer::Handle(register.prepare(bit)?))
+            },
+            Rule::Read => Ok(Answer::Outcome(register.read(self.handle(2))?)),
+            Rule::Gates => {
+                self.apply(register)?;
+                Ok(Answer::Nothing)
+            },
+            Rule::Function | Rule::Pair | Rule::Then | Rule::Else => Ok(Answer::Nothing),
         }
-        Rule::Function | Rule::Pair | Rule::Then | Rule::Else => Ok(Answer::Nothing),
     }
 }
 
@@ -111,7 +110,7 @@ pub fn let_go_unnamed<R: Register>(
     ensures { R.Register.meaning register.new ≡ released_all R.Register.changes
         (dropped (λ h. slice_index_or before.now h false) (λ h. slice_index_or after.now h false)) (R.Register.meaning register.old) }
 {
-    for handle in 0..HANDLES {
-        let_go_if_unnamed(register, before[handle], after[handle], handle as u8);
+    for (handle, (was_named, is_named)) in before.iter().zip(after).enumerate() {
+        let_go_if_unnamed(register, *was_named, *is_named, handle as u8);
     }
 }

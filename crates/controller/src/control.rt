@@ -1,16 +1,7 @@
 //! One shot with its register.
 
-ghost use Rattle.std.specs.Prelude.{◌≡◌, length, is_err, MatchResult, OnErr};
-ghost use Rattle.rows.specs.Members.{step, run, collect, abandon};
-ghost use Rattle.registers.specs.Meaning.{after_clear};
-ghost use Rattle.controller.specs.Asking.{told};
-ghost use Rattle.controller.specs.Keeping.{Kept, KeptBy, LoadKeptBy};
-ghost use Rattle.controller.specs.Loading.{load_answer};
-ghost use Rattle.controller.specs.Running.{RunAnswer, standing};
-ghost use Rattle.controller.specs.Shots.{held, nothing_held, program_held};
-ghost use Rattle.controller.specs.Stepping.{StepLeaves, count_made, step_made, placed};
-ghost use Rattle.controller.specs.Unloading.{abandon_answer, collect_answer};
-ghost use Rattle.controller.specs.Tables.{begun_with};
+ghost use Rattle.controller.specs.Keeping.{Kept};
+ghost use Rattle.controller.specs.Shots.{held};
 
 use crate::faults::{Refusal, Stop};
 use crate::shot::Shot;
@@ -23,18 +14,32 @@ use registers::Register;
 pub struct Controller<R: Register> {
     shot: Shot,
     register: R,
+    // Some row leads to where the controller is.
+    ghost reached: { ∥ Kept R.Register.changes (held shot) (R.Register.meaning register) ∥₁ },
 }
 
 impl<R: Register> Controller<R> {
+    ghost use Rattle.std.specs.Prelude.{◌≡◌, length, is_err, MatchResult, OnErr};
+    ghost use Rattle.rows.specs.Members.{step, run, collect, abandon};
+    ghost use Rattle.registers.specs.Meaning.{after_clear};
+    ghost use Rattle.controller.specs.Asking.{told};
+    ghost use Rattle.controller.specs.Calls.{IsKept, CallKeeps, LoadKeeps};
+    ghost use Rattle.controller.specs.Loading.{load_answer};
+    ghost use Rattle.controller.specs.Running.{RunAnswer, standing};
+    ghost use Rattle.controller.specs.Shots.{held, nothing_held, program_held};
+    ghost use Rattle.controller.specs.Stepping.{StepLeaves, count_made, step_made, placed};
+    ghost use Rattle.controller.specs.Unloading.{Ends, abandon_answer, collect_answer};
+    ghost use Rattle.controller.specs.Tables.{begun_with};
+
     /// Takes a register and clears it; nothing is loaded.
     pub fn new(mut register: R) -> Controller<R>
         ensures held { held result.shot ≡ nothing_held }
         ensures register { R.Register.meaning result.register ≡ after_clear R.Register.changes (R.Register.meaning register) }
-        ensures kept { Kept R.Register.changes (held result.shot) (R.Register.meaning result.register) }
+        ensures kept { IsKept R.Register result }
     {
         register.clear();
         Controller {
-            shot: Shot::new(),
+            shot: Shot::default(),
             register,
         }
     }
@@ -45,17 +50,17 @@ impl<R: Register> Controller<R> {
         ensures state { MatchResult result
             (λ _. (held self.new.shot ≡ program_held program.now.types.now program.now.terms.now) × (self.new.register ≡ self.old.register))
             (λ _. self.new ≡ self.old) }
-        ensures kept { LoadKeptBy R.Register.changes R.Register.meaning program.now.types.now program.now.terms.now self.old.shot self.old.register self.new.shot self.new.register (is_err result) }
+        ensures kept { LoadKeeps R.Register program.now.types.now program.now.terms.now self.old self.new (is_err result) }
     {
         self.shot.load(&self.register, program)
     }
 
     /// Makes one step, after which the work table starts with the next term; answers its cell count.
     pub fn step(&mut self, work: &mut [TermCell]) -> Result<usize, Refusal>
-        ensures answer { result ≡ placed (held self.old.shot).steps (count_made (step_made R.Register.changes (told R.Register.meaning R.Register.depth R.Register.fresh R.Register.outcome self.old.register) (held self.old.shot) (length work.old))) }
-        ensures state { StepLeaves R.Register.meaning (step_made R.Register.changes (told R.Register.meaning R.Register.depth R.Register.fresh R.Register.outcome self.old.register) (held self.old.shot) (length work.old))
+        ensures answer { result ≡ placed (held self.old.shot).steps (count_made (step_made R.Register.changes (told R.Register self.old.register) (held self.old.shot) (length work.old))) }
+        ensures state { StepLeaves R.Register (step_made R.Register.changes (told R.Register self.old.register) (held self.old.shot) (length work.old))
             self.old.shot self.new.shot self.old.register self.new.register work.old work.new }
-        ensures kept { KeptBy R.Register.changes R.Register.meaning (step (length work.old)) self.old.shot self.old.register self.new.shot self.new.register (is_err result) }
+        ensures kept { CallKeeps R.Register (step (length work.old)) self.old self.new (is_err result) }
     {
         self.shot.step(&mut self.register, work)
     }
@@ -63,9 +68,9 @@ impl<R: Register> Controller<R> {
     /// Makes steps until the running term is a value, the budget is spent or a step is refused; answers those made, and why it stopped.
     pub fn run(&mut self, budget: u64, work: &mut [TermCell]) -> Result<(u64, Stop), Refusal>
         ensures answer { RunAnswer R.Register.changes budget
-            (standing R.Register.meaning self.old.shot self.old.register work.old) (standing R.Register.meaning self.new.shot self.new.register work.new) result }
+            (standing R.Register self.old.shot self.old.register work.old) (standing R.Register self.new.shot self.new.register work.new) result }
         ensures refused { OnErr result ((self.new ≡ self.old) × (work.new ≡ work.old)) }
-        ensures kept { KeptBy R.Register.changes R.Register.meaning (run budget (length work.old)) self.old.shot self.old.register self.new.shot self.new.register (is_err result) }
+        ensures kept { CallKeeps R.Register (run budget (length work.old)) self.old self.new (is_err result) }
     {
         self.shot.run(&mut self.register, budget, work)
     }
@@ -78,12 +83,12 @@ impl<R: Register> Controller<R> {
     ) -> Result<(usize, usize), Refusal>
         ensures answer { result ≡ collect_answer (held self.old.shot) (length value.old) (length kinds.old) }
         ensures state { MatchResult result
-            (λ _. (held self.new.shot ≡ nothing_held) × (R.Register.meaning self.new.register ≡ after_clear R.Register.changes (R.Register.meaning self.old.register)))
+            (λ _. Ends R.Register self.new.shot self.old.register self.new.register)
             (λ _. self.new ≡ self.old) }
         ensures tables { MatchResult result
             (λ _. (value.new ≡ begun_with (held self.old.shot).cells value.old) × (kinds.new ≡ begun_with (held self.old.shot).kinds kinds.old))
             (λ _. (value.new ≡ value.old) × (kinds.new ≡ kinds.old)) }
-        ensures kept { KeptBy R.Register.changes R.Register.meaning (collect (length value.old) (length kinds.old)) self.old.shot self.old.register self.new.shot self.new.register (is_err result) }
+        ensures kept { CallKeeps R.Register (collect (length value.old) (length kinds.old)) self.old self.new (is_err result) }
     {
         self.shot.collect(&mut self.register, value, kinds)
     }
@@ -92,9 +97,9 @@ impl<R: Register> Controller<R> {
     pub fn abandon(&mut self) -> Result<(), Refusal>
         ensures answer { result ≡ abandon_answer (held self.old.shot) }
         ensures state { MatchResult result
-            (λ _. (held self.new.shot ≡ nothing_held) × (R.Register.meaning self.new.register ≡ after_clear R.Register.changes (R.Register.meaning self.old.register)))
+            (λ _. Ends R.Register self.new.shot self.old.register self.new.register)
             (λ _. self.new ≡ self.old) }
-        ensures kept { KeptBy R.Register.changes R.Register.meaning abandon self.old.shot self.old.register self.new.shot self.new.register (is_err result) }
+        ensures kept { CallKeeps R.Register abandon self.old self.new (is_err result) }
     {
         self.shot.abandon(&mut self.register)
     }

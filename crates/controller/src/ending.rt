@@ -1,9 +1,8 @@
 //! The end of a shot: its value is collected, or it is abandoned.
 
 ghost use Rattle.std.specs.Prelude.{◌≡◌, length, MatchResult};
-ghost use Rattle.registers.specs.Meaning.{after_clear};
-ghost use Rattle.controller.specs.Shots.{held, nothing_held};
-ghost use Rattle.controller.specs.Unloading.{abandon_answer, collect_answer};
+ghost use Rattle.controller.specs.Shots.{held};
+ghost use Rattle.controller.specs.Unloading.{Ends, abandon_answer, collect_answer};
 ghost use Rattle.controller.specs.Tables.{begun_with};
 
 use crate::faults::{ControllerFault, Refusal};
@@ -15,8 +14,7 @@ use registers::Register;
 impl Shot {
     // Clears the register and unloads.
     fn end<R: Register>(&mut self, register: &mut R)
-        ensures shot { held self.new ≡ nothing_held }
-        ensures register { R.Register.meaning register.new ≡ after_clear R.Register.changes (R.Register.meaning register.old) }
+        ensures { Ends R.Register self.new register.old register.new }
     {
         register.clear();
         self.unload();
@@ -31,25 +29,25 @@ impl Shot {
     ) -> Result<(usize, usize), Refusal>
         ensures answer { result ≡ collect_answer (held self.old) (length value.old) (length kinds.old) }
         ensures state { MatchResult result
-            (λ _. (held self.new ≡ nothing_held) × (R.Register.meaning register.new ≡ after_clear R.Register.changes (R.Register.meaning register.old)))
+            (λ _. Ends R.Register self.new register.old register.new)
             (λ _. (self.new ≡ self.old) × (register.new ≡ register.old)) }
         ensures tables { MatchResult result
             (λ _. (value.new ≡ begun_with (held self.old).cells value.old) × (kinds.new ≡ begun_with (held self.old).kinds kinds.old))
             (λ _. (value.new ≡ value.old) × (kinds.new ≡ kinds.old)) }
     {
-        if self.len == 0 {
-            return Err(self.refusal(ControllerFault::NothingLoaded));
+        if self.cells.is_empty() {
+            return Err(ControllerFault::NothingLoaded.at(self.steps));
         }
-        let Ok(None) = find(self.running()) else {
-            return Err(self.refusal(ControllerFault::NoValue));
+        let Ok(None) = find(&self.cells) else {
+            return Err(ControllerFault::NoValue.at(self.steps));
         };
-        let len = self.len;
-        let kind_len = self.kind_len;
+        let len = self.cells.len();
+        let kind_len = self.kinds.len();
         if value.len() < len || kinds.len() < kind_len {
-            return Err(self.refusal(ControllerFault::ShortTables));
+            return Err(ControllerFault::ShortTables.at(self.steps));
         }
-        value[0..len].copy_from_slice(&self.cells[0..len]);
-        kinds[0..kind_len].copy_from_slice(&self.kinds[0..kind_len]);
+        value[..len].copy_from_slice(&self.cells);
+        kinds[..kind_len].copy_from_slice(&self.kinds);
         self.end(register);
         Ok((len, kind_len))
     }
@@ -58,11 +56,11 @@ impl Shot {
     pub fn abandon<R: Register>(&mut self, register: &mut R) -> Result<(), Refusal>
         ensures answer { result ≡ abandon_answer (held self.old) }
         ensures state { MatchResult result
-            (λ _. (held self.new ≡ nothing_held) × (R.Register.meaning register.new ≡ after_clear R.Register.changes (R.Register.meaning register.old)))
+            (λ _. Ends R.Register self.new register.old register.new)
             (λ _. (self.new ≡ self.old) × (register.new ≡ register.old)) }
     {
-        if self.len == 0 {
-            return Err(self.refusal(ControllerFault::NothingLoaded));
+        if self.cells.is_empty() {
+            return Err(ControllerFault::NothingLoaded.at(self.steps));
         }
         self.end(register);
         Ok(())

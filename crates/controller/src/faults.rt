@@ -1,9 +1,10 @@
 //! Why a call is refused, and why a run stops.
 
 ghost use Rattle.std.specs.Prelude.{◌≡◌};
-ghost use Rattle.controller.specs.declared.faults.ControllerFault.TheVariants.{Register as ofRegister};
+ghost use Rattle.controller.specs.declared.faults.ControllerFault.TheVariants.{NoRule, Register as ofRegister};
 ghost use Rattle.controller.specs.Faults.{fault_number};
 
+use finder::FindFault;
 use registers::RegisterFault;
 
 /// A fault of a call of the controller.
@@ -46,6 +47,13 @@ impl ControllerFault {
             ControllerFault::Register(fault) => fault.number(),
         }
     }
+
+    // The refusal of a call for the fault, at a place.
+    pub(crate) fn at(self, place: u64) -> Refusal
+        ensures { result ≡ record { fault = self; place = place } }
+    {
+        Refusal { fault: self, place }
+    }
 }
 
 impl From<RegisterFault> for ControllerFault {
@@ -53,6 +61,14 @@ impl From<RegisterFault> for ControllerFault {
 
     fn from(fault: RegisterFault) -> ControllerFault {
         ControllerFault::Register(fault)
+    }
+}
+
+impl From<FindFault> for ControllerFault {
+    ghost from_gives = { λ _ c. c ≡ NoRule };
+
+    fn from(_fault: FindFault) -> ControllerFault {
+        ControllerFault::NoRule
     }
 }
 

@@ -1,46 +1,28 @@
 //! Loading a program, and unloading it.
 
-ghost use Rattle.std.specs.Prelude.{◌≡◌, ◌≤◌, map, length, take, MatchResult};
-ghost use Rattle.calculus.specs.Cells.{unclaimed};
-ghost use Rattle.controller.specs.Loading.{is_made, load_answer};
+ghost use Rattle.std.specs.Prelude.{◌≡◌, ◌≤◌, map, length, MatchResult};
+ghost use Rattle.controller.specs.Loading.{is_made, first_unmade, load_answer};
 ghost use Rattle.controller.specs.Shots.{claiming_nothing, held, nothing_held, program_held, root_cells, root_claim};
 
 use crate::faults::{ControllerFault, Refusal};
-use crate::shot::Shot;
-use calculus::{Gate, MOST_RUNNING_CELLS, MOST_TYPE_CELLS, TermCell, TypeCell};
+use crate::shot::{Shot, refill};
+use calculus::{Gate, TermCell, TypeCell};
 use checker::Accepted;
 use registers::Register;
-use trees::{Test, copy, first_failing};
+use trees::{first_failing, reach};
 
-const BLANK: TermCell = TermCell {
-    op: '\0',
-    argument: 0,
-    claim: 0,
-};
-
-// The test of a cell that names no gate, or one that the register makes.
-#[derive(Drop)]
-struct Made<'a, R: Register>(&'a R);
-
-impl<'a, R: Register> Test<TermCell> for Made<'a, R> {
-    ghost holds = { λ s. is_made (R.Register.meaning s.0.now).makes };
-
-    fn passes(&self, cell: TermCell) -> bool {
-        if cell.op != 'g' {
-            return true;
-        }
-        match Gate::from_number(cell.argument) {
-            Some(gate) => self.0.makes(gate),
-            None => false,
-        }
-    }
+// Whether a cell names no gate, or one that the register makes.
+fn is_made<R: Register>(register: &R, cell: &TermCell) -> bool
+    ensures { result ≡ is_made (R.Register.meaning register.now).makes cell.now }
+{
+    cell.op != 'g' || Gate::try_from(cell.argument).is_ok_and(|gate| register.makes(gate))
 }
 
 // Has every cell claim nothing.
 fn forget_claims(cells: &mut [TermCell])
     ensures { cells.new ≡ map claiming_nothing cells.old }
 {
-    for cell in cells.iter_mut() {
+    for cell in cells {
         cell.claim = 0;
     }
 }
@@ -49,75 +31,53 @@ fn forget_claims(cells: &mut [TermCell])
 fn root_claim(terms: &[TermCell]) -> usize
     ensures { result ≡ root_claim terms.now }
 {
-    match terms {
-        [root, ..] => root.claim as usize,
-        [] => 0,
-    }
+    terms.first().map_or(0, |root| root.claim as usize)
 }
 
-// Copies a program's term, which claims nothing as it runs, to the front of a table; answers its cell count.
-fn copy_term(program: &Accepted, cells: &mut [TermCell]) -> usize
-    requires { length cells.old ≡ 1024 }
-    ensures count { (result ≡ length program.now.terms.now) × (result ≤ 512) }
-    ensures cells { take result cells.new ≡ unclaimed program.now.terms.now }
-    ensures wide { length cells.new ≡ 1024 }
+// The cells of the type that a program's root claims.
+fn root_cells<'a>(program: &Accepted<'a>) -> &'a [TypeCell]
+    ensures cells { result.now ≡ root_cells program.now.types.now program.now.terms.now }
+    ensures few { length result.now ≤ 256 }
 {
-    let len = copy(program.terms(), 0, cells).unwrap_or(0);
-    forget_claims(cells);
-    len
-}
-
-// Copies the type of a program's root to the front of a table; answers its cell count.
-fn copy_kinds(program: &Accepted, kinds: &mut [TypeCell]) -> usize
-    requires { length kinds.old ≡ 256 }
-    ensures count { result ≤ 256 }
-    ensures kinds { take result kinds.new ≡ root_cells program.now.types.now program.now.terms.now }
-    ensures wide { length kinds.new ≡ 256 }
-{
+    let types = program.types();
     let root = root_claim(program.terms());
-    copy(program.types(), root, kinds).unwrap_or(0)
+    let end = reach(types, root).unwrap();
+    &types[root..end]
+}
+
+// The first cell that names a gate which the register does not make.
+fn first_unmade<R: Register>(register: &R, terms: &[TermCell]) -> Option<usize>
+    ensures { result ≡ first_unmade (R.Register.meaning register.now).makes terms.now }
+{
+    first_failing(terms, |cell| is_made(register, &cell))
 }
 
 impl Shot {
-    /// Nothing loaded.
-    pub fn new() -> Shot
-        ensures { held result ≡ nothing_held }
-    {
-        Shot {
-            cells: [BLANK; MOST_RUNNING_CELLS],
-            len: 0,
-            kinds: [TypeCell { kind: '\0' }; MOST_TYPE_CELLS],
-            kind_len: 0,
-            steps: 0,
-        }
-    }
-
     /// Copies an accepted program's term, which claims nothing as it runs, and its root's type; answers the cell count.
     pub fn load<R: Register>(&mut self, register: &R, program: &Accepted) -> Result<usize, Refusal>
         ensures answer { result ≡ load_answer (R.Register.meaning register.now).makes (held self.old) program.now.terms.now }
         ensures state { MatchResult result (λ _. held self.new ≡ program_held program.now.types.now program.now.terms.now) (λ _. self.new ≡ self.old) }
     {
-        if self.len > 0 {
-            return Err(self.refusal(ControllerFault::AlreadyLoaded));
+        if !self.cells.is_empty() {
+            return Err(ControllerFault::AlreadyLoaded.at(self.steps));
         }
-        if let Some(cell) = first_failing(&Made(register), program.terms()) {
-            return Err(Refusal {
-                fault: ControllerFault::GateNotMade,
-                place: cell as u64,
-            });
+        let terms = program.terms();
+        if let Some(cell) = first_unmade(register, terms) {
+            return Err(ControllerFault::GateNotMade.at(cell as u64));
         }
-        self.len = copy_term(program, &mut self.cells);
-        self.kind_len = copy_kinds(program, &mut self.kinds);
+        refill(&mut self.cells, terms);
+        forget_claims(&mut self.cells);
+        refill(&mut self.kinds, root_cells(program));
         self.steps = 0;
-        Ok(self.len)
+        Ok(terms.len())
     }
 
     /// Nothing is loaded any more.
     pub fn unload(&mut self)
         ensures { held self.new ≡ nothing_held }
     {
-        self.len = 0;
-        self.kind_len = 0;
+        self.cells.clear();
+        self.kinds.clear();
         self.steps = 0;
     }
 }

@@ -6,15 +6,15 @@ ghost use Rattle.controller.specs.Faults.{ready_answer};
 ghost use Rattle.controller.specs.Running.{RunAnswer, standing};
 ghost use Rattle.controller.specs.Shots.{held};
 ghost use Rattle.controller.specs.Stepping.{StepLeaves, advanced, taken, one_more, count_made, step_made, placed};
-ghost use Rattle.controller.specs.Letting.{dropped, released_all};
-ghost use Rattle.controller.specs.Tables.{begun_with, front_of};
+ghost use Rattle.controller.specs.Letting.{released_all};
+ghost use Rattle.controller.specs.Tables.{begun_with};
 ghost use Rattle.controller.specs.Unloading.{is_value};
-ghost use Rattle.stepper.specs.Naming.{names};
+ghost use Rattle.stepper.specs.Naming.{dropped, names};
 ghost use Rattle.stepper.specs.Next.{next_cells};
 
-use crate::asking::{ask, let_go_unnamed};
+use crate::asking::{Redex, let_go_unnamed};
 use crate::faults::{ControllerFault, Refusal, Stop};
-use crate::shot::Shot;
+use crate::shot::{Shot, refill};
 use calculus::{MOST_RUNNING_CELLS, TermCell};
 use finder::{FindFault, Rule, find};
 use registers::Register;
@@ -24,10 +24,7 @@ use stepper::{Answer, named, next};
 fn is_value(found: &Result<Option<(Rule, usize)>, FindFault>) -> bool
     ensures { result ≡ is_value found.now }
 {
-    match found {
-        Ok(None) => true,
-        _ => false,
-    }
+    matches!(found, Ok(None))
 }
 
 // Writes the next term to the front of a work table, and answers its cell count.
@@ -41,20 +38,10 @@ fn write_next(
     requires { (1024 ≤ length work.old) × (length (next_cells cells.now rule at answer) ≤ 1024) }
     ensures count { result ≡ length (next_cells cells.now rule at answer) }
     ensures work { work.new ≡ begun_with (next_cells cells.now rule at answer) work.old }
-    ensures front { front_of work.new result ≡ next_cells cells.now rule at answer }
+    ensures fits { result ≤ length work.new }
+    ensures front { take result work.new ≡ next_cells cells.now rule at answer }
 {
-    next(cells, rule, at, answer, work).unwrap_or(0)
-}
-
-// The cells at the front of a table, or none where it has not so many.
-fn front(table: &[TermCell], len: usize) -> &[TermCell]
-    ensures { result.now ≡ front_of table.now len }
-{
-    if len <= table.len() {
-        &table[0..len]
-    } else {
-        &[]
-    }
+    next(cells, rule, at, answer, work).unwrap()
 }
 
 impl Shot {
@@ -62,7 +49,7 @@ impl Shot {
     fn ready(&self, work: &[TermCell]) -> Result<(), ControllerFault>
         ensures { result ≡ ready_answer (length (held self.now).cells) (length work.now) }
     {
-        if self.len == 0 {
+        if self.cells.is_empty() {
             return Err(ControllerFault::NothingLoaded);
         }
         if work.len() < MOST_RUNNING_CELLS {
@@ -76,8 +63,7 @@ impl Shot {
         requires { length cells.now ≤ 1024 }
         ensures { held self.new ≡ record { cells = cells.now; kinds = (held self.old).kinds; steps = one_more (held self.old).steps } }
     {
-        self.cells[0..cells.len()].copy_from_slice(cells);
-        self.len = cells.len();
+        refill(&mut self.cells, cells);
         self.steps = self.steps.saturating_add(1);
     }
 
@@ -98,9 +84,9 @@ impl Shot {
             (dropped (names (held self.old).cells) (names (next_cells (held self.old).cells rule at answer))) (R.Register.meaning register.old) }
         ensures work { work.new ≡ begun_with (next_cells (held self.old).cells rule at answer) work.old }
     {
-        let before = named(self.running());
-        let len = write_next(self.running(), rule, at, answer, work);
-        let cells = front(work, len);
+        let before = named(&self.cells);
+        let len = write_next(&self.cells, rule, at, answer, work);
+        let cells = &work[..len];
         let_go_unnamed(register, &before, &named(cells));
         self.replace(cells);
         len
@@ -115,16 +101,18 @@ impl Shot {
         work: &mut [TermCell],
     ) -> Result<usize, ControllerFault>
         requires { 1024 ≤ length work.old }
-        ensures answer { result ≡ count_made (advanced R.Register.changes (told R.Register.meaning R.Register.depth R.Register.fresh R.Register.outcome register.old) (held self.old).cells rule at) }
-        ensures state { StepLeaves R.Register.meaning (advanced R.Register.changes (told R.Register.meaning R.Register.depth R.Register.fresh R.Register.outcome register.old) (held self.old).cells rule at) self.old self.new register.old register.new work.old work.new }
+        ensures answer { result ≡ count_made (advanced R.Register.changes (told R.Register register.old) (held self.old).cells rule at) }
+        ensures state { StepLeaves R.Register (advanced R.Register.changes (told R.Register register.old) (held self.old).cells rule at) self.old self.new register.old register.new work.old work.new }
     {
-        if at >= self.len {
+        if at >= self.cells.len() {
             return Err(ControllerFault::NoRule);
         }
-        if next(self.running(), rule, at, Answer::Nothing, &mut []).is_none() {
-            return Err(ControllerFault::TooLong);
-        }
-        let answer = ask(register, self.running(), rule, at)?;
+        next(&self.cells, rule, at, Answer::Nothing, &mut []).ok_or(ControllerFault::TooLong)?;
+        let redex = Redex {
+            cells: &self.cells,
+            at,
+        };
+        let answer = redex.ask(register, rule)?;
         Ok(self.go_on(register, rule, at, answer, work))
     }
 
@@ -136,14 +124,11 @@ impl Shot {
         work: &mut [TermCell],
     ) -> Result<usize, ControllerFault>
         requires { 1024 ≤ length work.old }
-        ensures answer { result ≡ count_made (taken R.Register.changes (told R.Register.meaning R.Register.depth R.Register.fresh R.Register.outcome register.old) (held self.old).cells found) }
-        ensures state { StepLeaves R.Register.meaning (taken R.Register.changes (told R.Register.meaning R.Register.depth R.Register.fresh R.Register.outcome register.old) (held self.old).cells found) self.old self.new register.old register.new work.old work.new }
+        ensures answer { result ≡ count_made (taken R.Register.changes (told R.Register register.old) (held self.old).cells found) }
+        ensures state { StepLeaves R.Register (taken R.Register.changes (told R.Register register.old) (held self.old).cells found) self.old self.new register.old register.new work.old work.new }
     {
-        match found {
-            Ok(Some((rule, at))) => self.advance(register, rule, at, work),
-            Ok(None) => Err(ControllerFault::AtValue),
-            Err(_) => Err(ControllerFault::NoRule),
-        }
+        let (rule, at) = found?.ok_or(ControllerFault::AtValue)?;
+        self.advance(register, rule, at, work)
     }
 
     /// Makes one step, after which the work table starts with the next term; answers its cell count.
@@ -152,17 +137,14 @@ impl Shot {
         register: &mut R,
         work: &mut [TermCell],
     ) -> Result<usize, Refusal>
-        ensures answer { result ≡ placed (held self.old).steps (count_made (step_made R.Register.changes (told R.Register.meaning R.Register.depth R.Register.fresh R.Register.outcome register.old) (held self.old) (length work.old))) }
-        ensures state { StepLeaves R.Register.meaning (step_made R.Register.changes (told R.Register.meaning R.Register.depth R.Register.fresh R.Register.outcome register.old) (held self.old) (length work.old)) self.old self.new register.old register.new work.old work.new }
+        ensures answer { result ≡ placed (held self.old).steps (count_made (step_made R.Register.changes (told R.Register register.old) (held self.old) (length work.old))) }
+        ensures state { StepLeaves R.Register (step_made R.Register.changes (told R.Register register.old) (held self.old) (length work.old)) self.old self.new register.old register.new work.old work.new }
     {
-        if let Err(fault) = self.ready(work) {
-            return Err(self.refusal(fault));
-        }
-        let found = find(self.running());
-        match self.take_step(register, found, work) {
-            Ok(len) => Ok(len),
-            Err(fault) => Err(self.refusal(fault)),
-        }
+        let steps = self.steps;
+        self.ready(work).map_err(|fault| fault.at(steps))?;
+        let found = find(&self.cells);
+        self.take_step(register, found, work)
+            .map_err(|fault| fault.at(steps))
     }
 
     /// Makes steps until the running term is a value, the budget is spent or a step is refused; answers those made, and why it stopped.
@@ -172,15 +154,13 @@ impl Shot {
         budget: u64,
         work: &mut [TermCell],
     ) -> Result<(u64, Stop), Refusal>
-        ensures answer { RunAnswer R.Register.changes budget (standing R.Register.meaning self.old register.old work.old) (standing R.Register.meaning self.new register.new work.new) result }
+        ensures answer { RunAnswer R.Register.changes budget (standing R.Register self.old register.old work.old) (standing R.Register self.new register.new work.new) result }
         ensures refused { OnErr result ((self.new ≡ self.old) × (register.new ≡ register.old) × (work.new ≡ work.old)) }
     {
-        if let Err(fault) = self.ready(work) {
-            return Err(self.refusal(fault));
-        }
+        self.ready(work).map_err(|fault| fault.at(self.steps))?;
         let mut made = 0;
         loop {
-            let found = find(self.running());
+            let found = find(&self.cells);
             if is_value(&found) {
                 return Ok((made, Stop::Value));
             }

@@ -1,13 +1,14 @@
 -- A row that is played so far, and one turn more.
-use Rattle.std.specs.Prelude.{◌≡◌, ◌↔◌, ℕ, suc, ◌+◌, ◌-◌, min, ◌<◌, ◌≤◌, true, List, [], ◌∷◌, ◌++◌, length, take, drop, None, Bool, false, cond, Some, Ok, Option}
+use Rattle.std.specs.Prelude.{◌≡◌, ◌↔◌, ℕ, zero, suc, ◌+◌, ◌-◌, min, ◌<◌, ◌≤◌, true, List, [], ◌∷◌, ◌++◌, length, take, drop, None, Bool, false, cond, Some, Ok, Err, Option, Result, MatchResult, is_err}
 use Rattle.std.proofs.Common.{ap, ◌∙◌, sym, refl, subst, inl, inr, get_or, set, arith}
-use Rattle.std.proofs.lemmas.List.{length-take-le, take_more}
+use Rattle.std.proofs.lemmas.List.{length-take-le, length-drop, take_all, take_more, drop_more}
 use Rattle.calculus.specs.declared.cells.TermCell.{TermCell}
 use Rattle.calculus.specs.declared.gates.Gate.{Gate}
 use Rattle.controller.specs.declared.faults.ControllerFault.TheVariants.{AlreadyLoaded}
 use Rattle.controller.specs.Faults.{refused}
 use Rattle.controller.specs.Loading.{count_or_unmade, first_unmade, load_answer}
 use Rattle.calculus.specs.declared.cells.TypeCell.{TypeCell}
+use Rattle.registers.specs.declared.register.Register.{Ghosts}
 use Rattle.registers.specs.Meaning.{Meaning, Changes, after_clear}
 use Rattle.rows.specs.Members.{Member}
 use Rattle.rows.specs.Places.{Place, New}
@@ -15,11 +16,13 @@ use Rattle.rows.specs.Refusing.{Refused}
 use Rattle.rows.specs.Doing.{Does}
 use Rattle.rows.specs.Rows.{Row, row_end, row_next, Reached, at_start, then_does}
 use Rattle.rows.proofs.Sound.{every_place_is_sound}
-use Rattle.controller.specs.declared.shot.Shot.{Shot}
+use Rattle.controller.specs.declared.control.Controller.{Controller}
+use Rattle.controller.specs.declared.faults.Refusal.{Refusal}
 use Rattle.controller.specs.Shots.{Held, held, nothing_held, is_loaded}
-use Rattle.controller.specs.Keeping.{Kept, place_of, LoadKeptBy}
+use Rattle.controller.specs.Keeping.{Kept, place_of}
 use Rattle.player.specs.declared.turns.Turn.{Turn}
 use Rattle.player.specs.declared.turns.Reply.{Reply}
+use Rattle.player.specs.declared.turns.Reply.TheVariants.{Loaded, Refused as RefusedReply}
 use Rattle.player.specs.Turns.{Rooms, rooms, IsMember, IsReply, LoadReply, NotPlayed, is_refused, LoadPlayed, TurnPlayed}
 use Rattle.player.specs.Playing.{Played, none_played, not_accepted, one_played, first_place, RowPlayed}
 
@@ -53,6 +56,23 @@ module _ {C : Type 0} {changes : Changes C} {r : Rooms} where
   as_many (not_accepted m k) = ap suc (as_many k)
   as_many (one_played i a d f k) = ap suc (as_many k)
 
+-- the first of the turns that are left is the next
+pub next_of : {A : Type 0} (row : List A) (i : ℕ) (x : A) (xs : List A) → drop i row ≡ x ∷ xs → (i < length row) × (get_or row i x ≡ x) × (drop (i + 1) row ≡ xs)
+next_of row i x xs e =
+    let n : length (drop i row) ≡ suc (length xs) = ap length e in
+    let l : i < length row = omega (arith, length-drop i row) in
+    let f = sym (drop_more row i x l) ∙ e in
+    (l, cc, cc)
+
+-- where no turn is left, or no place for a reply, as many are played as there are places
+pub ended : {A X : Type 0} (n at places : ℕ) (row rest : List A) → n + at ≡ places → rest ≡ drop at row → (0 < n → (length rest ≡ 0) × X) → take at row ≡ take places row
+ended zero at places row rest e f g = let z : at ≡ places = omega arith in ap (λ k. take k row) z
+ended (suc n) at places row rest e f g =
+    let z = (g (omega arith)).0 in
+    let l = ap length f in
+    let all : length row ≤ at = omega (arith, length-drop at row) in
+    take_all at row all ∙ sym (take_all places row (omega arith))
+
 -- the next place of a table is written
 written : {A : Type 0} (told old : List A) (y : A) → length told < length old
     → set (told ++ drop (length told) old) (length told) y ≡ (told ++ y ∷ []) ++ drop (length (told ++ y ∷ [])) old
@@ -79,40 +99,55 @@ by_loaded : (b : Bool) (o : Option ℕ) (n m place : ℕ) → Ok n ≡ cond b (r
 by_loaded true o n m place e = absurd (grind arith)
 by_loaded false o n m place e = by_unmade o n m e
 
-pub loaded_count : (makes : Gate → Bool) (h : Held) (terms : List TermCell) (n : ℕ) → Ok n ≡ load_answer makes h terms → n ≡ length terms
+loaded_count : (makes : Gate → Bool) (h : Held) (terms : List TermCell) (n : ℕ) → Ok n ≡ load_answer makes h terms → n ≡ length terms
 loaded_count makes h terms n e = by_loaded (is_loaded h) (first_unmade makes terms) n (length terms) h.steps e
+
+-- what is told of a load's answer
+pub load_reply : {P : ℕ → Type 0} {Q : Refusal → Type 0} (makes : Gate → Bool) (h : Held) (terms : List TermCell) (answer : Result ℕ Refusal) (y : Reply) → MatchResult answer P Q
+    → ((n : ℕ) → P n → y ≡ Loaded n) → ((f : Refusal) → Q f → y ≡ RefusedReply f) → answer ≡ load_answer makes h terms → LoadReply terms y
+load_reply makes h terms (Ok n) y m f g e = inl (f n m ∙ ap Loaded (loaded_count makes h terms n e))
+load_reply makes h terms (Err r) y m f g e = inr (r, g r m)
 
 -- the length of the front of a table
 pub cut : {A : Type 0} (n room : ℕ) (xs : List A) → n ≡ min room (length xs) → length (take (n - 0) xs) ≡ min room (length xs)
 cut n room xs e = let z : n - 0 ≡ n = omega arith in let l : n ≤ length xs = grind arith in ap (λ k. length (take k xs)) z ∙ length-take-le n xs l ∙ e
 
-module _ {R C : Type 0} (changes : Changes C) (meaning : R → Meaning C) (given : Meaning C) (r : Rooms) where
-  abbrev kept_so_far : {row : List Turn} {old new : List Reply} {h : Held} {m : Meaning C} → RowPlayed changes given r row old new h m → Kept changes h m
-  kept_so_far k = record { loaded = k.loaded; stands = k.stands; start = first_place changes given; is_new = k.is_new; reached = reached_of at_start k.played }
+-- what is told of a call's answer is said to be refused where the call is
+pub refused_where : {A : Type 0} {P : A → Type 0} {Q : Refusal → Type 0} (K : Bool → Type 0) (answer : Result A Refusal) (y : Reply) → MatchResult answer P Q
+    → ((x : A) → P x → is_refused y ≡ false) → ((f : Refusal) → Q f → is_refused y ≡ true) → K (is_err answer) → K (is_refused y)
+refused_where K (Ok x) y m f g k = subst K (sym (f x m)) k
+refused_where K (Err e) y m f g k = subst K (sym (g e m)) k
+
+module _ {R : Type 0} (kind : Ghosts R) (given : Meaning kind.Content) (r : Rooms) where
+  -- a row that a controller has played
+  abbrev pub RowOf : List Turn → List Reply → List Reply → Controller R kind → Type 0
+  RowOf row old new c = RowPlayed kind.changes given r row old new (held c.shot) (kind.meaning c.register)
+
+  abbrev kept_so_far : (row : List Turn) (old new : List Reply) (c : Controller R kind) → RowOf row old new c → Kept kind.changes (held c.shot) (kind.meaning c.register)
+  kept_so_far row old new c k = record { loaded = k.loaded; stands = k.stands; start = first_place kind.changes given; is_new = k.is_new; reached = reached_of at_start k.played }
 
   -- a new controller has played nothing
-  pub none_yet : (old : List Reply) (h : Held) (m : Meaning C) → h ≡ nothing_held → given.capacity ≤ 32 → m ≡ after_clear changes given → RowPlayed changes given r [] old old h m
-  none_yet old h m s small cleared =
-      let is_new : New changes (first_place changes given) = record { nothing = refl; given = given; small = small; cleared = refl } in
-      subst (λ z. RowPlayed changes given r [] old old h z) (sym cleared) (record {
+  pub none_yet : (old : List Reply) (c : Controller R kind) → held c.shot ≡ nothing_held → given.capacity ≤ 32 → kind.meaning c.register ≡ after_clear kind.changes given → RowOf [] old old c
+  none_yet old c s small cleared =
+      let is_new : New kind.changes (first_place kind.changes given) = record { nothing = refl; given = given; small = small; cleared = refl } in
+      subst (λ z. RowPlayed kind.changes given r [] old old (held c.shot) z) (sym cleared) (record {
         replies = [];
         members = [];
-        places = first_place changes given ∷ [];
+        places = first_place kind.changes given ∷ [];
         loaded = None;
         stands = s;
         played = none_played;
         is_new = is_new;
         is_row = row_end;
-        sound = every_place_is_sound C changes (first_place changes given) [] (first_place changes given ∷ []) is_new row_end;
+        sound = every_place_is_sound kind.Content kind.changes (first_place kind.changes given) [] (first_place kind.changes given ∷ []) is_new row_end;
         told = refl;
       })
 
   -- one turn more
-  one_more : (n : ℕ) (row : List Turn) (old new : List Reply) (shot shot' : Shot) (register register' : R) (t : Turn) (y : Reply)
-      → RowPlayed changes given r row old new (held shot) (meaning register) → TurnPlayed changes meaning r t shot register shot' register' y
-      → length row ≡ n → n < length old → RowPlayed changes given r (row ++ t ∷ []) old (set new n y) (held shot') (meaning register')
-  one_more n row old new shot shot' register register' t y k (inl (x, i, a, keeps)) s l =
-      let after = keeps (kept_so_far k) in
+  one_more : (n : ℕ) (row : List Turn) (old new : List Reply) (c c' : Controller R kind) (t : Turn) (y : Reply)
+      → RowOf row old new c → TurnPlayed kind r t c c' y → length row ≡ n → n < length old → RowOf (row ++ t ∷ []) old (set new n y) c'
+  one_more n row old new c c' t y k (inl (x, i, a, keeps)) s l =
+      let after = keeps (kept_so_far row old new c k) in
       let played = then_one t y k.played i a after.does after.refusal in
       record {
         replies = k.replies ++ y ∷ [];
@@ -123,12 +158,12 @@ module _ {R C : Type 0} (changes : Changes C) (meaning : R → Meaning C) (given
         played = played;
         is_new = k.is_new;
         is_row = row_of played;
-        sound = every_place_is_sound C changes (first_place changes given) _ _ k.is_new (row_of played);
+        sound = every_place_is_sound kind.Content kind.changes (first_place kind.changes given) _ _ k.is_new (row_of played);
         told = told_more n old new k.replies y (as_many k.played ∙ s) l k.told;
       }
-  one_more n row old new shot shot' register register' t y k (inr (not, e, f)) s l =
-      subst (λ h. RowPlayed changes given r (row ++ t ∷ []) old (set new n y) h (meaning register')) (sym (ap held e))
-      (subst (λ m. RowPlayed changes given r (row ++ t ∷ []) old (set new n y) (held shot) m) (sym (ap meaning f))
+  one_more n row old new c c' t y k (inr (not, e, f)) s l =
+      subst (λ h. RowPlayed kind.changes given r (row ++ t ∷ []) old (set new n y) h (kind.meaning c'.register)) (sym (ap held e))
+      (subst (λ m. RowPlayed kind.changes given r (row ++ t ∷ []) old (set new n y) (held c.shot) m) (sym (ap kind.meaning f))
       (record {
         replies = k.replies ++ y ∷ [];
         members = k.members;
@@ -143,27 +178,20 @@ module _ {R C : Type 0} (changes : Changes C) (meaning : R → Meaning C) (given
       }))
 
   -- the next turn of a row
-  pub next_turn : (i : ℕ) (row : List Turn) (d : Turn) (old new : List Reply) (shot shot' : Shot) (register register' : R) (y : Reply) (q : Rooms) → q ≡ r
-      → RowPlayed changes given r (take i row) old new (held shot) (meaning register) → TurnPlayed changes meaning q (get_or row i d) shot register shot' register' y
-      → i < length row → i < length old → RowPlayed changes given r (take (i + 1) row) old (set new i y) (held shot') (meaning register')
-  next_turn i row d old new shot shot' register register' y q e k t l m =
+  pub next_turn : (i : ℕ) (row rest : List Turn) (t : Turn) (old new : List Reply) (c c' : Controller R kind) (y : Reply) (q : Rooms) → q ≡ r → drop i row ≡ t ∷ rest
+      → RowOf (take i row) old new c → TurnPlayed kind q t c c' y → i < length old → RowOf (take (i + 1) row) old (set new i y) c'
+  next_turn i row rest t old new c c' y q e f k p m =
+      let (l, g, h) = next_of row i t rest f in
       let le : i ≤ length row = omega arith in
-      let turn = subst (λ z. TurnPlayed changes meaning z (get_or row i d) shot register shot' register' y) e t in
-      subst (λ ts. RowPlayed changes given r ts old (set new i y) (held shot') (meaning register')) (sym (take_more row i d l))
-      (one_more i (take i row) old new shot shot' register register' (get_or row i d) y k turn (length-take-le i row le) m)
+      let turn = subst (λ z. TurnPlayed kind z t c c' y) e p in
+      subst (λ ts. RowOf ts old (set new i y) c') (ap (λ z. take i row ++ z ∷ []) (sym g) ∙ sym (take_more row i t l)) (one_more i (take i row) old new c c' t y k turn (length-take-le i row le) m)
 
-module _ {R C : Type 0} (changes : Changes C) (meaning : R → Meaning C) where
+module _ {R : Type 0} (kind : Ghosts R) where
   -- A load by tables that are those of the turn.
-  pub loaded_by : (types types' : List TypeCell) (terms terms' : List TermCell) (shot shot' : Shot) (register register' : R) (y : Reply) → types' ≡ types → terms' ≡ terms
-      → LoadReply terms y → LoadKeptBy changes meaning types' terms' shot register shot' register' (is_refused y) → LoadPlayed changes meaning types terms shot register shot' register' y
-  loaded_by types types' terms terms' shot shot' register register' y e f a k =
-      inl (
-        subst (λ z. LoadKeptBy changes meaning z terms shot register shot' register' (is_refused y)) e
-            (subst (λ z. LoadKeptBy changes meaning types' z shot register shot' register' (is_refused y)) f k),
-        a,
-      )
+  pub loaded_by : (types types' : List TypeCell) (terms terms' : List TermCell) (c c' : Controller R kind) (y : Reply) → types' ≡ types → terms' ≡ terms
+      → LoadPlayed kind types' terms' c c' y → LoadPlayed kind types terms c c' y
+  loaded_by types types' terms terms' c c' y e f p = subst (λ z. LoadPlayed kind z terms c c' y) e (subst (λ z. LoadPlayed kind types' z c c' y) f p)
 
   -- The same turn, as it is matched.
-  pub turn_is : (r : Rooms) (t u : Turn) (shot shot' : Shot) (register register' : R) (y : Reply) → t ≡ u
-      → TurnPlayed changes meaning r u shot register shot' register' y → TurnPlayed changes meaning r t shot register shot' register' y
-  turn_is r t u shot shot' register register' y e p = subst (λ z. TurnPlayed changes meaning r z shot register shot' register' y) (sym e) p
+  pub turn_is : (r : Rooms) (t u : Turn) (c c' : Controller R kind) (y : Reply) → t ≡ u → TurnPlayed kind r u c c' y → TurnPlayed kind r t c c' y
+  turn_is r t u c c' y e p = subst (λ z. TurnPlayed kind r z c c' y) (sym e) p

@@ -5,12 +5,12 @@ use Rattle.calculus.specs.declared.cells.TypeCell.{TypeCell}
 use Rattle.verdict.specs.declared.faults.CheckFault.{CheckFault}
 use Rattle.checker.specs.Accepting.{program_verdict}
 use Rattle.checker.specs.Meaning.{meaning}
-use Rattle.registers.specs.Meaning.{Meaning, Changes}
+use Rattle.registers.specs.declared.register.Register.{Ghosts}
 use Rattle.rows.specs.Members.{Program, Member, load, step, run, collect, abandon}
 use Rattle.controller.specs.declared.faults.Refusal.{Refusal}
 use Rattle.controller.specs.declared.faults.Stop.{Stop}
-use Rattle.controller.specs.declared.shot.Shot.{Shot}
-use Rattle.controller.specs.Keeping.{KeptBy, LoadKeptBy}
+use Rattle.controller.specs.declared.control.Controller.{Controller}
+use Rattle.controller.specs.Calls.{CallKeeps, LoadKeeps}
 use Rattle.player.specs.declared.turns.Turn.{Turn}
 use Rattle.player.specs.declared.turns.Turn.TheVariants.{Load, Step, Run, Collect, Abandon}
 use Rattle.player.specs.declared.turns.Reply.{Reply}
@@ -82,13 +82,13 @@ IsReply (Run budget room) = RunReply budget
 IsReply (Collect room kind_room) = CollectReply
 IsReply Abandon = AbandonReply
 
--- A load by its tables is played: as a member of a row, or nothing is called.
-abbrev pub LoadPlayed : {R C : Type 0} → Changes C → (R → Meaning C) → List TypeCell → List TermCell → Shot → R → Shot → R → Reply → Type 0
-LoadPlayed changes meaning types terms shot register shot' register' y =
-    (LoadKeptBy changes meaning types terms shot register shot' register' (is_refused y) × LoadReply terms y) ⊎ (Unaccepted types terms y × (shot' ≡ shot) × (register' ≡ register))
+module _ {R : Type 0} (kind : Ghosts R) where
+  -- A load by its tables is played: as a member of a row, or nothing is called.
+  abbrev pub LoadPlayed : List TypeCell → List TermCell → Controller R kind → Controller R kind → Reply → Type 0
+  LoadPlayed types terms c c' y =
+      (LoadKeeps kind types terms c c' (is_refused y) × LoadReply terms y) ⊎ (Unaccepted types terms y × (c'.shot ≡ c.shot) × (c'.register ≡ c.register))
 
--- A turn is played: as the member that it is, or nothing is called.
-abbrev pub TurnPlayed : {R C : Type 0} → Changes C → (R → Meaning C) → Rooms → Turn → Shot → R → Shot → R → Reply → Type 0
-TurnPlayed changes meaning r turn shot register shot' register' y =
-    ((x : Member) × IsMember r turn x × IsReply turn y × KeptBy changes meaning x shot register shot' register' (is_refused y))
-    ⊎ (NotPlayed turn y × (shot' ≡ shot) × (register' ≡ register))
+  -- A turn is played: as the member that it is, or nothing is called.
+  abbrev pub TurnPlayed : Rooms → Turn → Controller R kind → Controller R kind → Reply → Type 0
+  TurnPlayed r turn c c' y =
+      ((x : Member) × IsMember r turn x × IsReply turn y × CallKeeps kind x c c' (is_refused y)) ⊎ (NotPlayed turn y × (c'.shot ≡ c.shot) × (c'.register ≡ c.register))

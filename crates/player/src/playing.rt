@@ -2,14 +2,14 @@
 
 ghost use Rattle.std.specs.Prelude.{length, take};
 ghost use Rattle.rows.specs.Members.{step, run, collect, abandon};
+ghost use Rattle.controller.specs.Calls.{CallKeeps};
 ghost use Rattle.controller.specs.Shots.{held};
-ghost use Rattle.controller.specs.Keeping.{KeptBy};
 ghost use Rattle.player.specs.Turns.{rooms, is_refused, StepReply, RunReply, CollectReply, AbandonReply, LoadPlayed, TurnPlayed};
 ghost use Rattle.player.specs.Playing.{RowPlayed};
 
 use crate::turns::{Reply, Turn};
 use calculus::{TermCell, TypeCell};
-use checker::{Accepted, check};
+use checker::check;
 use controller::Controller;
 use registers::Register;
 
@@ -19,35 +19,32 @@ fn load<R: Register>(
     types: &[TypeCell],
     terms: &[TermCell],
 ) -> Reply
-    ensures { LoadPlayed R.Register.changes R.Register.meaning types.now terms.now controller.old.shot controller.old.register controller.new.shot controller.new.register result }
+    ensures { LoadPlayed R.Register types.now terms.now controller.old controller.new result }
 {
-    if let Err(fault) = check(types, terms) {
-        return Reply::NotAccepted(fault);
-    }
-    match controller.load(&Accepted::new(types, terms)) {
-        Ok(cells) => Reply::Loaded(cells),
-        Err(refusal) => Reply::Refused(refusal),
+    match check(types, terms) {
+        Ok(program) => controller
+            .load(&program)
+            .map_or_else(Reply::Refused, Reply::Loaded),
+        Err(fault) => Reply::NotAccepted(fault),
     }
 }
 
 fn step<R: Register>(controller: &mut Controller<R>, work: &mut [TermCell]) -> Reply
     ensures reply { StepReply result }
-    ensures kept { KeptBy R.Register.changes R.Register.meaning (step (length work.old)) controller.old.shot controller.old.register controller.new.shot controller.new.register (is_refused result) }
+    ensures kept { CallKeeps R.Register (step (length work.old)) controller.old controller.new (is_refused result) }
 {
-    match controller.step(work) {
-        Ok(cells) => Reply::Stepped(cells),
-        Err(refusal) => Reply::Refused(refusal),
-    }
+    controller
+        .step(work)
+        .map_or_else(Reply::Refused, Reply::Stepped)
 }
 
 fn run<R: Register>(controller: &mut Controller<R>, budget: u64, work: &mut [TermCell]) -> Reply
     ensures reply { RunReply budget result }
-    ensures kept { KeptBy R.Register.changes R.Register.meaning (run budget (length work.old)) controller.old.shot controller.old.register controller.new.shot controller.new.register (is_refused result) }
+    ensures kept { CallKeeps R.Register (run budget (length work.old)) controller.old controller.new (is_refused result) }
 {
-    match controller.run(budget, work) {
-        Ok((steps, stop)) => Reply::Ran(steps, stop),
-        Err(refusal) => Reply::Refused(refusal),
-    }
+    controller
+        .run(budget, work)
+        .map_or_else(Reply::Refused, |(steps, stop)| Reply::Ran(steps, stop))
 }
 
 fn collect<R: Register>(
@@ -56,17 +53,18 @@ fn collect<R: Register>(
     kinds: &mut [TypeCell],
 ) -> Reply
     ensures reply { CollectReply result }
-    ensures kept { KeptBy R.Register.changes R.Register.meaning (collect (length value.old) (length kinds.old)) controller.old.shot controller.old.register controller.new.shot controller.new.register (is_refused result) }
+    ensures kept { CallKeeps R.Register (collect (length value.old) (length kinds.old)) controller.old controller.new (is_refused result) }
 {
-    match controller.collect(value, kinds) {
-        Ok((cells, kind_cells)) => Reply::Collected(cells, kind_cells),
-        Err(refusal) => Reply::Refused(refusal),
-    }
+    controller
+        .collect(value, kinds)
+        .map_or_else(Reply::Refused, |(cells, kind_cells)| {
+            Reply::Collected(cells, kind_cells)
+        })
 }
 
 fn abandon<R: Register>(controller: &mut Controller<R>) -> Reply
     ensures reply { AbandonReply result }
-    ensures kept { KeptBy R.Register.changes R.Register.meaning abandon controller.old.shot controller.old.register controller.new.shot controller.new.register (is_refused result) }
+    ensures kept { CallKeeps R.Register abandon controller.old controller.new (is_refused result) }
 {
     match controller.abandon() {
         Ok(()) => Reply::Abandoned,
@@ -82,8 +80,7 @@ fn play_turn<R: Register>(
     value: &mut [TermCell],
     kinds: &mut [TypeCell],
 ) -> Reply
-    ensures { TurnPlayed R.Register.changes R.Register.meaning (rooms (length work.old) (length value.old) (length kinds.old)) turn.now
-        controller.old.shot controller.old.register controller.new.shot controller.new.register result }
+    ensures { TurnPlayed R.Register (rooms (length work.old) (length value.old) (length kinds.old)) turn.now controller.old controller.new result }
 {
     match *turn {
         Turn::Load(types, terms) => load(controller, types, terms),
@@ -117,8 +114,8 @@ pub fn play<R: Register>(
         (take (length replies.old) row.now) replies.old replies.new (held result.shot) (R.Register.meaning result.register) }
 {
     let mut controller = Controller::new(register);
-    for i in 0..replies.len().min(row.len()) {
-        replies[i] = play_turn(&mut controller, &row[i], work, value, kinds);
+    for (i, turn) in row.iter().take(replies.len()).enumerate() {
+        replies[i] = play_turn(&mut controller, turn, work, value, kinds);
     }
     controller
 }

@@ -35,9 +35,9 @@ fn row<'a>(types: &'a [TypeCell], none: &'a [TermCell], terms: &'a [TermCell]) -
 
 // The replies to the row; there is no place for the last.
 fn replies<R: Register + Drop>(register: R) -> [Reply; 7] {
-    let mut work = [term('\0', 0); MOST_RUNNING_CELLS];
-    let mut value = [term('\0', 0); 4];
-    let mut kinds = [kind('\0'); 4];
+    let mut work = [TermCell::default(); MOST_RUNNING_CELLS];
+    let mut value = [TermCell::default(); 4];
+    let mut kinds = [TypeCell::default(); 4];
     let types = [
         kind('b'),
         kind('>'),

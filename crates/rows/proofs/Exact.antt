@@ -2,10 +2,10 @@
 use Rattle.std.proofs.Common.{◌≡◌, ℕ, ◌<◌, ◌⊎◌, List, [], ◌∷◌, sym, refl, ap, ◌∙◌, subst, ap₂, inl, inr, ⊎_elim, arith}
 use Rattle.calculus.specs.Terms.{Running}
 use Rattle.calculus.specs.Reduction.{Effect, silent, prepares, reads, applies, Reduces}
-use Rattle.calculus.specs.Names.{Names, In}
+use Rattle.calculus.specs.Names.{Names, In, Rising}
 use Rattle.calculus.proofs.Determinism.{deterministic}
 use Rattle.registers.specs.Meaning.{Meaning, Changes, after_prepare, after_read, after_gate}
-use Rattle.rows.specs.Stepping.{Rising, Acts, without}
+use Rattle.rows.specs.Stepping.{Acts, without}
 use Rattle.rows.specs.Making.{StepsAreExact}
 
 -- A rising list is told by its members.

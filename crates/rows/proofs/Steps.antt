@@ -4,7 +4,7 @@ use native.Mathlib.Decide.{ℕ_discrete, dec_le}
 use Rattle.calculus.specs.Types.{Ty}
 use Rattle.calculus.specs.Terms.{held, Running}
 use Rattle.calculus.specs.Reduction.{Value, Effect, silent, prepares, reads, applies, Reduces}
-use Rattle.calculus.specs.Names.{Names, In}
+use Rattle.calculus.specs.Names.{Names, In, Rising}
 use Rattle.calculus.specs.Safety.{Goes, goes_silent, goes_prepare, goes_read, goes_gate}
 use Rattle.calculus.proofs.Canonical.{progresses}
 use Rattle.calculus.proofs.Ways.{free?, wires_qubits}
@@ -14,7 +14,7 @@ use Rattle.rows.specs.Members.{step}
 use Rattle.rows.specs.Places.{Place}
 use Rattle.rows.specs.Asking.{Calls, asks}
 use Rattle.rows.specs.Refusing.{most_cells, short_to_step, step_of_value, register_refuses, Refused}
-use Rattle.rows.specs.Stepping.{Accepts, Acts, Rising, Steps}
+use Rattle.rows.specs.Stepping.{Accepts, Acts, Steps}
 use Rattle.rows.specs.Doing.{no_more, one_more, steps}
 use Rattle.rows.specs.Making.{Possible, Served}
 use Rattle.rows.proofs.Lists.{lit, in_lit, of_lit, rising_lit, dark}

@@ -1,8 +1,8 @@
 -- One step: the term reduces, the register acts, and the qubits that are named no more are let go.
-use Rattle.std.specs.Prelude.{◌≡◌, ℕ, ◌<◌, ◌↔◌, List, [], ◌∷◌}
+use Rattle.std.specs.Prelude.{◌≡◌, ℕ, ◌↔◌, List, [], ◌∷◌}
 use Rattle.calculus.specs.Terms.{Running}
 use Rattle.calculus.specs.Reduction.{Effect, silent, prepares, reads, applies, Reduces}
-use Rattle.calculus.specs.Names.{Names, In}
+use Rattle.calculus.specs.Names.{Names, In, Rising}
 use Rattle.registers.specs.declared.fault.RegisterReason.{RegisterReason}
 use Rattle.registers.specs.Meaning.{Meaning, Changes, Fresh, after_prepare, after_gate, after_read, after_let_go}
 use Rattle.registers.specs.Sheet.{Call, to_prepare, to_gate, to_read, Holds}
@@ -10,10 +10,6 @@ use Rattle.registers.specs.Sheet.{Call, to_prepare, to_gate, to_read, Holds}
 -- no row of the register's sheet holds for the call
 abbrev pub Accepts : {C : Type 0} → Meaning C → Call → Type 0
 Accepts r call = (reason : RegisterReason) → Holds r reason call → ⊥
-
-abbrev pub Rising : List ℕ → Type 0
-Rising [] = Unit {0}
-Rising (h ∷ hs) = ((k : ℕ) → In k hs → h < k) × Rising hs
 
 module _ {C : Type 0} (changes : Changes C) where
   -- The register does what the effect is, and gives the answer that the effect has.

@@ -6,26 +6,22 @@ use Rattle.player.proofs.playing.play_turn.Goals as goal
 
 pub returns-in-Load : goal.returns-in-Load
 returns-in-Load g c =
-    turn_is g.R.Register.changes g.R.Register.meaning (rooms (length c.args.work.now) (length c.args.value.now) (length c.args.kinds.now)) c.args.turn.now _
-    c.args.controller.now.shot c.load.new.controller.shot c.args.controller.now.register c.load.new.controller.register c.load.result c.in-Load.is
+    turn_is g.R.Register (rooms (length c.args.work.now) (length c.args.value.now) (length c.args.kinds.now)) c.args.turn.now _ c.args.controller.now c.load.new.controller c.load.result c.in-Load.is
     (⊎_elim (λ p. inl (load p.0.0, (p.0.0, p.0.1, refl), p.1, p.0.2)) (λ n. inr n) c.load.ensures)
 
 pub returns-in-Step : goal.returns-in-Step
 returns-in-Step g c =
-    turn_is g.R.Register.changes g.R.Register.meaning (rooms (length c.args.work.now) (length c.args.value.now) (length c.args.kinds.now)) c.args.turn.now _
-    c.args.controller.now.shot c.step.new.controller.shot c.args.controller.now.register c.step.new.controller.register c.step.result c.in-Step.is
+    turn_is g.R.Register (rooms (length c.args.work.now) (length c.args.value.now) (length c.args.kinds.now)) c.args.turn.now _ c.args.controller.now c.step.new.controller c.step.result c.in-Step.is
     (inl (step _, ap step (cut c.min-room.result c.in-Step.room c.args.work.now c.min-room.ensures), c.step.ensures.reply, c.step.ensures.kept))
 
 pub returns-in-Run : goal.returns-in-Run
 returns-in-Run g c =
-    turn_is g.R.Register.changes g.R.Register.meaning (rooms (length c.args.work.now) (length c.args.value.now) (length c.args.kinds.now)) c.args.turn.now _
-    c.args.controller.now.shot c.run.new.controller.shot c.args.controller.now.register c.run.new.controller.register c.run.result c.in-Run.is
+    turn_is g.R.Register (rooms (length c.args.work.now) (length c.args.value.now) (length c.args.kinds.now)) c.args.turn.now _ c.args.controller.now c.run.new.controller c.run.result c.in-Run.is
     (inl (run c.in-Run.budget _, ap (run c.in-Run.budget) (cut c.min-room-in-Run.result c.in-Run.room c.args.work.now c.min-room-in-Run.ensures), c.run.ensures.reply, c.run.ensures.kept))
 
 pub returns-in-Collect : goal.returns-in-Collect
 returns-in-Collect g c =
-    turn_is g.R.Register.changes g.R.Register.meaning (rooms (length c.args.work.now) (length c.args.value.now) (length c.args.kinds.now)) c.args.turn.now _
-    c.args.controller.now.shot c.collect.new.controller.shot c.args.controller.now.register c.collect.new.controller.register c.collect.result c.in-Collect.is
+    turn_is g.R.Register (rooms (length c.args.work.now) (length c.args.value.now) (length c.args.kinds.now)) c.args.turn.now _ c.args.controller.now c.collect.new.controller c.collect.result c.in-Collect.is
     (inl (
       collect _ _,
       ap₂ collect (cut c.min-room-in-Collect.result c.in-Collect.room c.args.value.now c.min-room-in-Collect.ensures)
@@ -36,6 +32,5 @@ returns-in-Collect g c =
 
 pub returns-in-Abandon : goal.returns-in-Abandon
 returns-in-Abandon g c =
-    turn_is g.R.Register.changes g.R.Register.meaning (rooms (length c.args.work.now) (length c.args.value.now) (length c.args.kinds.now)) c.args.turn.now _
-    c.args.controller.now.shot c.abandon.new.controller.shot c.args.controller.now.register c.abandon.new.controller.register c.abandon.result c.in-Abandon.is
+    turn_is g.R.Register (rooms (length c.args.work.now) (length c.args.value.now) (length c.args.kinds.now)) c.args.turn.now _ c.args.controller.now c.abandon.new.controller c.abandon.result c.in-Abandon.is
     (inl (abandon, refl, c.abandon.ensures.reply, c.abandon.ensures.kept))

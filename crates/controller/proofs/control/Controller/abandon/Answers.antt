@@ -1,8 +1,13 @@
+use Rattle.std.proofs.Math.Logic.{∥∥₁_map}
 use Rattle.controller.proofs.Keeping.{abandon_call}
+use Rattle.controller.proofs.Same.{same, told_otherwise}
 use Rattle.controller.proofs.control.Controller.abandon.Goals as goal
 
+pub invariant_of-self : goal.invariant_of-self
+invariant_of-self g c = let s = c.args.self.now in record { reached = ∥∥₁_map s.reached (λ k. (abandon_call g.R.Register.changes g.R.Register.meaning s.shot c.abandon.new.self s.register c.abandon.new.register c.abandon.result c.abandon.ensures.answer c.abandon.ensures.state k).after) }
+
+pub returns-clause-state : goal.returns-clause-state
+returns-clause-state g c = told_otherwise c.abandon.result c.abandon.ensures.state (λ _ p. p) (λ _ q. same g.R.Register c.args.self.now _ q.0 q.1)
+
 pub returns-clause-kept : goal.returns-clause-kept
-returns-clause-kept g c k =
-    let r = g.R.Register in
-    let s = c.args.self.now in
-    abandon_call r.changes r.meaning s.shot c.abandon.new.self s.register c.abandon.new.register c.abandon.result c.abandon.ensures.answer c.abandon.ensures.state k
+returns-clause-kept g c k = let s = c.args.self.now in abandon_call g.R.Register.changes g.R.Register.meaning s.shot c.abandon.new.self s.register c.abandon.new.register c.abandon.result c.abandon.ensures.answer c.abandon.ensures.state k

@@ -1,10 +1,14 @@
 use Rattle.std.proofs.Common.{length}
+use Rattle.std.proofs.Math.Logic.{∥∥₁_map}
 use Rattle.controller.proofs.Collected.{collect_call}
+use Rattle.controller.proofs.Same.{same, told_otherwise}
 use Rattle.controller.proofs.control.Controller.collect.Goals as goal
 
+pub invariant_of-self : goal.invariant_of-self
+invariant_of-self g c = let s = c.args.self.now in record { reached = ∥∥₁_map s.reached (λ k. (collect_call g.R.Register.changes g.R.Register.meaning s.shot c.collect.new.self s.register c.collect.new.register (length c.args.value.now) (length c.args.kinds.now) c.collect.result c.collect.ensures.answer c.collect.ensures.state k).after) }
+
+pub returns-clause-state : goal.returns-clause-state
+returns-clause-state g c = told_otherwise c.collect.result c.collect.ensures.state (λ _ p. p) (λ _ q. same g.R.Register c.args.self.now _ q.0 q.1)
+
 pub returns-clause-kept : goal.returns-clause-kept
-returns-clause-kept g c k =
-    let r = g.R.Register in
-    let s = c.args.self.now in
-    collect_call r.changes r.meaning s.shot c.collect.new.self s.register c.collect.new.register (length c.args.value.now) (length c.args.kinds.now)
-    c.collect.result c.collect.ensures.answer c.collect.ensures.state k
+returns-clause-kept g c k = let s = c.args.self.now in collect_call g.R.Register.changes g.R.Register.meaning s.shot c.collect.new.self s.register c.collect.new.register (length c.args.value.now) (length c.args.kinds.now) c.collect.result c.collect.ensures.answer c.collect.ensures.state k

@@ -1,8 +1,13 @@
+use Rattle.std.proofs.Math.Logic.{∥∥₁_map}
 use Rattle.controller.proofs.Calls.{run_call}
+use Rattle.controller.proofs.Same.{same, told_otherwise}
 use Rattle.controller.proofs.control.Controller.run.Goals as goal
 
+pub invariant_of-self : goal.invariant_of-self
+invariant_of-self g c = let s = c.args.self.now in record { reached = ∥∥₁_map s.reached (λ k. (run_call g.R.Register s.shot c.run.new.self s.register c.run.new.register c.args.work.now c.run.new.work k c.args.budget c.run.result c.run.ensures.answer c.run.ensures.refused).after) }
+
+pub returns-clause-refused : goal.returns-clause-refused
+returns-clause-refused g c = told_otherwise c.run.result c.run.ensures.refused (λ _ p. p) (λ _ q. (same g.R.Register c.args.self.now _ q.0 q.1, q.2))
+
 pub returns-clause-kept : goal.returns-clause-kept
-returns-clause-kept g c k =
-    let r = g.R.Register in
-    let s = c.args.self.now in
-    run_call r.changes r.meaning s.shot c.run.new.self s.register c.run.new.register c.args.work.now c.run.new.work k c.args.budget c.run.result c.run.ensures.answer c.run.ensures.refused
+returns-clause-kept g c k = let s = c.args.self.now in run_call g.R.Register s.shot c.run.new.self s.register c.run.new.register c.args.work.now c.run.new.work k c.args.budget c.run.result c.run.ensures.answer c.run.ensures.refused
