@@ -1,1 +1,3 @@
+mod Fresh
 mod Handed
+mod Stepped

@@ -27,12 +27,16 @@ node_of c = record { letter = c.op; argument = c.argument; claim = c.claim }
 abbrev pub bit_of : Bool → ℕ
 bit_of b = cond b 1 0
 
+-- a pulse on one qubit, with a bit
+abbrev pub bit_pulse : ℕ → ℕ → Bool → Pulse
+bit_pulse kind handle bit = record { kind = kind; what = bit_of bit; on = handle ∷ 0 ∷ 0 ∷ [] }
+
 -- what a pulse did, in five numbers
 abbrev pub pulse_of : Entry → Pulse
 pulse_of Empty = record { kind = 0; what = 0; on = 0 ∷ 0 ∷ 0 ∷ [] }
-pulse_of (Prepare h b) = record { kind = 1; what = bit_of b; on = h ∷ 0 ∷ 0 ∷ [] }
+pulse_of (Prepare h b) = bit_pulse 1 h b
 pulse_of (Gated g on) = record { kind = 2; what = number_of g; on = on }
-pulse_of (Read h b) = record { kind = 3; what = bit_of b; on = h ∷ 0 ∷ 0 ∷ [] }
+pulse_of (Read h b) = bit_pulse 3 h b
 
 -- a table whose front is made of other cells one by one, so many of them; the rest stays
 abbrev pub fronted_by : {X Y : Type 0} → ℕ → (X → Y) → List X → List Y → List Y
@@ -48,3 +52,7 @@ kinds_seen letters = map kind_of (take 257 letters)
 
 abbrev pub cells_seen : List Node → List TermCell
 cells_seen nodes = map cell_of (take 513 nodes)
+
+-- the same of a running term
+abbrev pub running_seen : List Node → List TermCell
+running_seen nodes = map cell_of (take 1025 nodes)

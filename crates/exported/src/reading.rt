@@ -4,9 +4,9 @@ ghost use Rattle.std.specs.Prelude.{◌≡◌, ◌≤◌};
 ghost use Rattle.exported.specs.Numbers.{number_of_kind, node_of, handed};
 ghost use Rattle.exported.specs.Verdicts.{fresh_reading, verdict_of};
 
-use crate::answers::{Verdict, accepted, refused};
-use crate::tables::{BLANK_TERM, BLANK_TYPE, Node, give_terms, give_types};
-use calculus::{MOST_TERM_CELLS, MOST_TYPE_CELLS};
+use crate::answers::{Verdict, accepted};
+use crate::tables::{Node, give_terms, give_types};
+use calculus::{MOST_TERM_CELLS, MOST_TYPE_CELLS, TermCell, TypeCell};
 use reader::read;
 
 /// Reads a stored program to new tables, which are handed back as far as there is room; answers both counts, or the fault and its line.
@@ -16,14 +16,14 @@ pub extern "C" fn ql_read(text: &[u8], letters: &mut [u32], nodes: &mut [Node]) 
     ensures types { letters.new ≡ handed number_of_kind (fresh_reading text.now).types letters.old }
     ensures terms { nodes.new ≡ handed node_of (fresh_reading text.now).terms nodes.old }
 {
-    let mut types = [BLANK_TYPE; MOST_TYPE_CELLS];
-    let mut terms = [BLANK_TERM; MOST_TERM_CELLS];
+    let mut types = [TypeCell::default(); MOST_TYPE_CELLS];
+    let mut terms = [TermCell::default(); MOST_TERM_CELLS];
     let answer = read(text, &mut types, &mut terms);
     give_types(&types, letters);
     give_terms(&terms, nodes);
     match answer {
         Ok((kinds, ops)) => accepted(kinds as u64, ops as u64),
-        Err(fault) => refused(fault.number(), fault.line as u64),
+        Err(fault) => Verdict::from(fault),
     }
 }
 
@@ -32,13 +32,9 @@ pub extern "C" fn ql_read(text: &[u8], letters: &mut [u32], nodes: &mut [Node]) 
 pub extern "C" fn ql_read_often(text: &[u8], times: u64) -> u64
     ensures { result ≤ times }
 {
-    let mut types = [BLANK_TYPE; MOST_TYPE_CELLS];
-    let mut terms = [BLANK_TERM; MOST_TERM_CELLS];
-    let mut passed = 0;
-    for _ in 0..times {
-        if read(text, &mut types, &mut terms).is_ok() {
-            passed += 1;
-        }
-    }
-    passed
+    let mut types = [TypeCell::default(); MOST_TYPE_CELLS];
+    let mut terms = [TermCell::default(); MOST_TERM_CELLS];
+    (0..times)
+        .filter(|_| read(text, &mut types, &mut terms).is_ok())
+        .count() as u64
 }

@@ -1,10 +1,8 @@
 //! Whole runs on a tape.
 
-ghost use Rattle.std.specs.Prelude.{◌≡◌, ◌≤◌};
-
-use crate::answers::{Verdict, accepted, refused};
+use crate::answers::{Verdict, accepted};
 use crate::tables::{
-    BLANK_TERM, BLANK_TYPE, Node, Pulse, Tables, give_journal, give_terms, give_types,
+    Node, Pulse, TERM_PLACES, give_journal, give_terms, give_types, term_table, type_table,
 };
 use calculus::{MOST_RUNNING_CELLS, MOST_TERM_CELLS, MOST_TYPE_CELLS, TermCell, TypeCell};
 use checker::{Accepted, check};
@@ -20,11 +18,6 @@ const PULSES: usize = 64;
 
 // Steps of a shot at most.
 const BUDGET: u64 = 1000;
-
-// The verdict on a call that the controller refused.
-fn refused_call(refusal: Refusal) -> Verdict {
-    refused(refusal.fault.number(), refusal.place)
-}
 
 // The verdict on a run: 0 at a value, 1 at a spent budget, else the number of the refused step; and the steps made.
 fn ran(steps: u64, stop: Stop) -> Verdict {
@@ -48,20 +41,15 @@ fn ran(steps: u64, stop: Stop) -> Verdict {
     }
 }
 
-// Loads a program and runs it.
+// Loads a program and runs it; answers the steps made and why the run stopped.
 fn load_and_run<R: Register>(
     controller: &mut Controller<R>,
     program: &Accepted,
     budget: u64,
     work: &mut [TermCell],
-) -> Verdict {
-    if let Err(refusal) = controller.load(program) {
-        return refused_call(refusal);
-    }
-    match controller.run(budget, work) {
-        Ok((steps, stop)) => ran(steps, stop),
-        Err(refusal) => refused_call(refusal),
-    }
+) -> Result<(u64, Stop), Refusal> {
+    controller.load(program)?;
+    controller.run(budget, work)
 }
 
 /// Checks a program's tables, loads it on a tape of the outcomes and runs it. Answers a fault and its place, or else how the run
@@ -76,17 +64,19 @@ pub extern "C" fn ql_run(
     kinds: &mut [u32],
     pulses: &mut [Pulse],
 ) -> Verdict {
-    let tables = Tables::new(letters, nodes);
-    let (types, terms) = (tables.types(), tables.terms());
-    if let Err(fault) = check(types, terms) {
-        return refused(fault.number(), fault.cell() as u64);
-    }
-    let program = Accepted::new(types, terms);
-    let mut work = [BLANK_TERM; MOST_RUNNING_CELLS];
-    let mut root = [BLANK_TYPE; MOST_TYPE_CELLS];
+    let (types, terms) = (type_table(letters), term_table::<TERM_PLACES>(nodes));
+    let program = match check(types.as_slice(), terms.as_slice()) {
+        Ok(program) => program,
+        Err(fault) => return Verdict::from(fault),
+    };
+    let mut work = [TermCell::default(); MOST_RUNNING_CELLS];
+    let mut root = [TypeCell::default(); MOST_TYPE_CELLS];
     let mut journal = [Entry::Empty; PULSES];
     let mut controller = Controller::new(Tape::new(CAPACITY, outcomes, &mut journal));
-    let mut verdict = load_and_run(&mut controller, &program, budget, &mut work);
+    let mut verdict = match load_and_run(&mut controller, &program, budget, &mut work) {
+        Ok((steps, stop)) => ran(steps, stop),
+        Err(refusal) => Verdict::from(refusal),
+    };
     give_journal(controller.register().journal(), pulses);
     if let Ok((cells, _)) = controller.collect(&mut work, &mut root) {
         verdict.second = cells as u64;
@@ -105,56 +95,46 @@ pub extern "C" fn ql_run_often(
     budget: u64,
     times: u64,
 ) -> u64 {
-    let tables = Tables::new(letters, nodes);
-    let (types, terms) = (tables.types(), tables.terms());
-    if check(types, terms).is_err() {
+    let (types, terms) = (type_table(letters), term_table::<TERM_PLACES>(nodes));
+    let Ok(program) = check(types.as_slice(), terms.as_slice()) else {
         return 0;
-    }
-    let program = Accepted::new(types, terms);
-    let mut work = [BLANK_TERM; MOST_RUNNING_CELLS];
+    };
+    let mut work = [TermCell::default(); MOST_RUNNING_CELLS];
     let mut journal = [Entry::Empty; PULSES];
-    let mut steps: u64 = 0;
-    for _ in 0..times {
+    (0..times).fold(0, |steps, _| {
         let mut controller = Controller::new(Tape::new(CAPACITY, outcomes, &mut journal));
-        let verdict = load_and_run(&mut controller, &program, budget, &mut work);
-        steps = steps.saturating_add(verdict.first);
-    }
-    steps
+        let run = load_and_run(&mut controller, &program, budget, &mut work);
+        steps.saturating_add(run.map_or(0, |(made, _)| made))
+    })
 }
 
-// Plays the shot of a stored program, and answers the steps made.
+// Plays the shot of a stored program, and answers the steps made if it was not refused.
 fn shot(
     text: &[u8],
     outcomes: &[u8],
     types: &mut [TypeCell],
     terms: &mut [TermCell],
     work: &mut [TermCell],
-) -> u64 {
-    let Ok((type_count, term_count)) = read(text, types, terms) else {
-        return 0;
-    };
-    let types = &types[0..type_count];
-    let terms = &terms[0..term_count];
-    if check(types, terms).is_err() {
-        return 0;
-    }
-    let mut kinds = [BLANK_TYPE; MOST_TYPE_CELLS];
+) -> Option<u64> {
+    let (type_count, term_count) = read(text, types, terms).ok()?;
+    let program = check(&types[..type_count], &terms[..term_count]).ok()?;
+    let mut kinds = [TypeCell::default(); MOST_TYPE_CELLS];
     let mut journal = [Entry::Empty; PULSES];
     let mut controller = Controller::new(Tape::new(CAPACITY, outcomes, &mut journal));
-    let verdict = load_and_run(&mut controller, &Accepted::new(types, terms), BUDGET, work);
+    let run = load_and_run(&mut controller, &program, BUDGET, work);
     let _ = controller.collect(work, &mut kinds);
-    verdict.first
+    let (steps, _) = run.ok()?;
+    Some(steps)
 }
 
 /// Plays the shot of a stored program so many times, from its text to its value, each time on a new tape of the outcomes; answers all the steps made.
 #[unsafe(no_mangle)]
 pub extern "C" fn ql_shot_often(text: &[u8], outcomes: &[u8], times: u64) -> u64 {
-    let mut types = [BLANK_TYPE; MOST_TYPE_CELLS];
-    let mut terms = [BLANK_TERM; MOST_TERM_CELLS];
-    let mut work = [BLANK_TERM; MOST_RUNNING_CELLS];
-    let mut steps: u64 = 0;
-    for _ in 0..times {
-        steps = steps.saturating_add(shot(text, outcomes, &mut types, &mut terms, &mut work));
-    }
-    steps
+    let mut types = [TypeCell::default(); MOST_TYPE_CELLS];
+    let mut terms = [TermCell::default(); MOST_TERM_CELLS];
+    let mut work = [TermCell::default(); MOST_RUNNING_CELLS];
+    (0..times).fold(0, |steps, _| {
+        let made = shot(text, outcomes, &mut types, &mut terms, &mut work);
+        steps.saturating_add(made.unwrap_or(0))
+    })
 }

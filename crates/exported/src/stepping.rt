@@ -1,18 +1,22 @@
 //! Finding the rule of a running term, and writing the next term.
 
 ghost use Rattle.std.specs.Prelude.{◌≡◌, ◌≤◌};
+ghost use Rattle.finder.specs.Finding.{answer as find_answer};
+ghost use Rattle.exported.specs.Numbers.{running_seen};
+ghost use Rattle.exported.specs.Steps.{answer_of, stepped, stepped_to};
+ghost use Rattle.exported.specs.Verdicts.{rule_number, located};
 
 use crate::answers::{Verdict, accepted, refused};
-use crate::tables::{BLANK_TERM, Node, give_terms, take_terms};
+use crate::tables::{Node, RUNNING_PLACES, give_terms, term_table};
 use calculus::{MOST_RUNNING_CELLS, TermCell};
+use controller::ControllerFault;
 use finder::{Rule, find};
 use stepper::{Answer, next};
 
-// Places in a table for one cell more than a running term may have.
-const PLACES: usize = MOST_RUNNING_CELLS + 1;
-
-/// The number of a rule, from 1 on.
-pub fn number_of(rule: Rule) -> u64 {
+// The number of a rule, from 1 on.
+fn rule_number(rule: Rule) -> u64
+    ensures { result ≡ rule_number rule }
+{
     match rule {
         Rule::Function => 1,
         Rule::Pair => 2,
@@ -25,24 +29,26 @@ pub fn number_of(rule: Rule) -> u64 {
 }
 
 // The answer of a register by its number: nothing at 256 and above 258, a handle below 256, then the two outcomes.
-fn answer_of(number: u64) -> Answer {
+fn answer_of(number: u64) -> Answer
+    ensures { result ≡ answer_of number }
+{
     match number {
+        0..=255 => Answer::Handle(number as u8),
         257 => Answer::Outcome(false),
         258 => Answer::Outcome(true),
-        _ if number < 256 => Answer::Handle(number as u8),
         _ => Answer::Nothing,
     }
 }
 
 /// The number of the rule that applies to a running term, 0 for a value, and the cell it applies at; or the fault and its cell.
 #[unsafe(no_mangle)]
-pub extern "C" fn ql_find(nodes: &[Node]) -> Verdict {
-    let mut cells = [BLANK_TERM; PLACES];
-    take_terms(nodes, &mut cells);
-    match find(&cells[0..nodes.len().min(PLACES)]) {
+pub extern "C" fn ql_find(nodes: &[Node]) -> Verdict
+    ensures { result ≡ located (find_answer (running_seen nodes.now)) }
+{
+    match find(term_table::<RUNNING_PLACES>(nodes).as_slice()) {
         Ok(None) => accepted(0, 0),
-        Ok(Some((rule, at))) => accepted(number_of(rule), at as u64),
-        Err(fault) => refused(fault.number(), fault.cell() as u64),
+        Ok(Some((rule, at))) => accepted(rule_number(rule), at as u64),
+        Err(fault) => Verdict::from(fault),
     }
 }
 
@@ -51,37 +57,32 @@ pub extern "C" fn ql_find(nodes: &[Node]) -> Verdict {
 pub extern "C" fn ql_find_often(nodes: &[Node], times: u64) -> u64
     ensures { result ≤ times }
 {
-    let mut cells = [BLANK_TERM; PLACES];
-    take_terms(nodes, &mut cells);
-    let count = nodes.len().min(PLACES);
-    let mut found = 0;
-    for _ in 0..times {
-        if let Ok(Some(_)) = find(&cells[0..count]) {
-            found += 1;
-        }
-    }
-    found
+    let cells = term_table::<RUNNING_PLACES>(nodes);
+    (0..times)
+        .filter(|_| matches!(find(cells.as_slice()), Ok(Some(_))))
+        .count() as u64
 }
 
 /// The next term by the rule that applies and a register's answer, handed back as far as there is room, and its count;
 /// 36 or the finder's fault where no rule applies, 37 where there are too many cells, 35 at a value.
 #[unsafe(no_mangle)]
-pub extern "C" fn ql_next(nodes: &[Node], answer: u64, to: &mut [Node]) -> Verdict {
-    let mut cells = [BLANK_TERM; PLACES];
-    let mut work = [BLANK_TERM; MOST_RUNNING_CELLS];
-    take_terms(nodes, &mut cells);
-    let cells = &cells[0..nodes.len().min(PLACES)];
-    let (rule, at) = match find(cells) {
-        Ok(Some(found)) => found,
-        Ok(None) => return refused(35, 0),
-        Err(fault) => return refused(fault.number(), fault.cell() as u64),
-    };
-    match next(cells, rule, at, answer_of(answer), &mut work) {
-        Some(count) => {
-            give_terms(&work, to);
-            accepted(count as u64, at as u64)
-        }
-        None => refused(37, at as u64),
+pub extern "C" fn ql_next(nodes: &[Node], answer: u64, to: &mut [Node]) -> Verdict
+    ensures answer { result ≡ stepped (running_seen nodes.now) (answer_of answer) (find_answer (running_seen nodes.now)) }
+    ensures table { to.new ≡ stepped_to (running_seen nodes.now) (answer_of answer) to.old (find_answer (running_seen nodes.now)) }
+{
+    let table = term_table::<RUNNING_PLACES>(nodes);
+    let cells = table.as_slice();
+    let mut work = [TermCell::default(); MOST_RUNNING_CELLS];
+    match find(cells) {
+        Ok(Some((rule, at))) => match next(cells, rule, at, answer_of(answer), &mut work) {
+            Some(count) => {
+                give_terms(&work, to);
+                accepted(count as u64, at as u64)
+            }
+            None => refused(ControllerFault::TooLong.number(), at as u64),
+        },
+        Ok(None) => refused(ControllerFault::AtValue.number(), 0),
+        Err(fault) => Verdict::from(fault),
     }
 }
 
@@ -101,15 +102,9 @@ fn steps(cells: &[TermCell], work: &mut [TermCell]) -> bool {
 pub extern "C" fn ql_next_often(nodes: &[Node], times: u64) -> u64
     ensures { result ≤ times }
 {
-    let mut cells = [BLANK_TERM; PLACES];
-    let mut work = [BLANK_TERM; MOST_RUNNING_CELLS];
-    take_terms(nodes, &mut cells);
-    let count = nodes.len().min(PLACES);
-    let mut made = 0;
-    for _ in 0..times {
-        if steps(&cells[0..count], &mut work) {
-            made += 1;
-        }
-    }
-    made
+    let cells = term_table::<RUNNING_PLACES>(nodes);
+    let mut work = [TermCell::default(); MOST_RUNNING_CELLS];
+    (0..times)
+        .filter(|_| steps(cells.as_slice(), &mut work))
+        .count() as u64
 }

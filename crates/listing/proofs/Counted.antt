@@ -1,10 +1,11 @@
--- Counted elements and outcomes, one more.
-use Rattle.std.proofs.Common.{◌≡◌, ℕ, ◌+◌, ◌%◌, ◌<◌, List, [], ◌∷◌, ◌++◌, length, take, get_or, sym, ap, ◌∙◌, arith}
+-- Counted elements, one more, and entries up to the first that is empty.
+use Rattle.std.proofs.Common.{Bool, true, false, refl, ◌≡◌, ℕ, ◌+◌, ◌<◌, List, [], ◌∷◌, ◌++◌, length, take, get_or, arith}
 use Rattle.std.proofs.lemmas.Grind.{common_steps}
 use Rattle.std.proofs.lemmas.List.{take_more}
-use Rattle.std.proofs.lemmas.List.FromFn.{map-range_with_len_more}
-use Rattle.std.specs.List.{enumerate_from}
-use Rattle.listing.specs.Playing.{alternating}
+use Rattle.std.specs.List.{enumerate_from, prefix_len}
+use Rattle.registers.specs.declared.journal.Entry.{Entry}
+use Rattle.registers.specs.declared.journal.Entry.TheVariants.{Empty, Prepare, Gate, Read}
+use Rattle.listing.specs.Playing.{before_empty}
 
 module _ {X : Type 0} where
   counted_append : (n : ℕ) (xs : List X) (y : X) → enumerate_from n (xs ++ y ∷ []) ≡ enumerate_from n xs ++ (n + length xs, y) ∷ []
@@ -17,5 +18,16 @@ module _ {X : Type 0} where
       let c = counted_append 0 (take k xs) (get_or xs k d) in
       grind (arith, common_steps, t, c)
 
-pub alternating_more : (xs ys : List ℕ) (k : ℕ) → xs ≡ alternating k → ys ≡ xs ++ (k % 2) ∷ [] → ys ≡ alternating (k + 1)
-alternating_more xs ys k h pushed = pushed ∙ ap (λ zs. zs ++ (k % 2) ∷ []) h ∙ sym (map-range_with_len_more (λ n. n % 2) 0 k k (omega arith))
+-- a pulse filled the entry
+abbrev pub made : Entry → Bool
+made Empty = false
+made (Prepare handle bit) = true
+made (Gate gate on) = true
+made (Read handle outcome) = true
+
+pub before_empty_is : (es : List Entry) → take (prefix_len made es) es ≡ before_empty es
+before_empty_is [] = refl
+before_empty_is (Empty ∷ es) = refl
+before_empty_is (Prepare handle bit ∷ es) = grind (arith, common_steps, before_empty_is es)
+before_empty_is (Gate gate on ∷ es) = grind (arith, common_steps, before_empty_is es)
+before_empty_is (Read handle outcome ∷ es) = grind (arith, common_steps, before_empty_is es)

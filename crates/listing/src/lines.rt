@@ -3,7 +3,7 @@
 ghost use Rattle.std.specs.Prelude.{◌≡◌, ◌++◌, IfOk, OnOk, [], ◌∷◌, map};
 ghost use Rattle.std.specs.String.{string_bytes};
 ghost use Rattle.listing.specs.Lines.{text_of};
-ghost use Rattle.listing.specs.Listing.{code_of, digit_of, kind_line, op_line, pulse_line, pulse_lines, refusal_line, stop_lines, listing_text};
+ghost use Rattle.listing.specs.Listing.{code_of, kind_line, op_line, pulse_line, pulse_lines, refusal_line, stop_lines, listing_text};
 
 use crate::shots::Shot;
 use calculus::{Gate, TermCell, TypeCell};
@@ -20,12 +20,6 @@ fn stop_code(stop: &Stop) -> u8
         Stop::Budget => 1,
         Stop::Refused { fault: _, steps: _ } => 2,
     }
-}
-
-fn bit(b: bool) -> u8
-    ensures { result ≡ digit_of b }
-{
-    if b { 1 } else { 0 }
 }
 
 // Appends the lines of a value's type.
@@ -55,7 +49,7 @@ fn push_ops(out: &mut String, value: &[TermCell]) -> Result<(), AllocError>
 fn push_gate(out: &mut String, pulse: usize, gate: Gate, on: [u8; 3]) -> Result<(), AllocError>
     ensures { OnOk result (string_bytes out.new ≡ string_bytes out.old ++ text_of (pulse_line pulse (Entry.Gate gate on) ∷ [])) }
 {
-    let number = gate.number();
+    let number = u16::from(gate);
     let [a, b, c] = on;
     match gate.operands() {
         1 => writeln!(out, "J {pulse} G {number} {a} - -"),
@@ -69,15 +63,14 @@ fn push_pulse(out: &mut String, pulse: usize, entry: Entry) -> Result<(), AllocE
     ensures { OnOk result (string_bytes out.new ≡ string_bytes out.old ++ text_of (pulse_line pulse entry ∷ [])) }
 {
     match entry {
-        Entry::Prepare {
-            handle,
-            bit: prepared,
-        } => writeln!(out, "J {pulse} P {handle} {} - -", bit(prepared)),
-        Entry::Read { handle, outcome } => writeln!(
-            out,
-            "J {pulse} R {handle} {} - -",
-            bit(outcome)
-        ),
+        Entry::Prepare { handle, bit } => {
+            let bit = u8::from(bit);
+            writeln!(out, "J {pulse} P {handle} {bit} - -")
+        },
+        Entry::Read { handle, outcome } => {
+            let outcome = u8::from(outcome);
+            writeln!(out, "J {pulse} R {handle} {outcome} - -")
+        },
         Entry::Gate { gate, on } => push_gate(out, pulse, gate, on),
         Entry::Empty => writeln!(out, "J {pulse} - - - - -"),
     }

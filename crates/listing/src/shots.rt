@@ -2,14 +2,18 @@
 
 ghost use Rattle.std.specs.Prelude.{◌≡◌, IfOk};
 ghost use Rattle.controller.specs.Faults.{fault_number};
+ghost use Rattle.reader.specs.Faults.{number_of as read_number};
+ghost use Rattle.verdict.specs.Faults.{fault_number as check_number, fault_cell};
+ghost use Rattle.listing.specs.declared.shots.Shot.TheVariants.{Refused};
 ghost use Rattle.listing.specs.Playing.{alternating, before_empty};
 
 use calculus::{MOST_RUNNING_CELLS, MOST_TERM_CELLS, MOST_TYPE_CELLS, TermCell, TypeCell};
 use controller::{Refusal, Stop};
 use player::{Reply, Turn, play as play_row};
-use reader::read;
+use reader::{ReadFault, read};
 use registers::{Entry, Tape};
 use std::alloc::{AllocError, Global};
+use verdict::CheckFault;
 
 /// Steps that a shot makes at most.
 pub const BUDGET: u64 = 1000;
@@ -38,73 +42,54 @@ pub enum Shot {
     },
 }
 
-const BLANK_TERM: TermCell = TermCell {
-    op: '\0',
-    argument: 0,
-    claim: 0,
-};
-
-const BLANK_TYPE: TypeCell = TypeCell { kind: '\0' };
-
 // The outcomes of the tape: pulse k answers k mod 2.
 fn outcomes(heap: Global) -> Result<Vec<u8>, AllocError>
     ensures { IfOk result (λ v. v.items ≡ alternating 64) }
 {
-    let mut outcomes = Vec::new(heap);
-    for k in 0..PULSES {
-        outcomes.push((k % 2) as u8)?;
-    }
-    Ok(outcomes)
+    (0..PULSES).map(|k| (k % 2) as u8).collect(heap)
 }
 
 // The entries of a journal up to the first that no pulse filled.
 fn pulses_made(heap: Global, journal: &[Entry]) -> Result<Vec<Entry>, AllocError>
     ensures { IfOk result (λ v. v.items ≡ before_empty journal.now) }
 {
-    let mut entries = Vec::new(heap);
-    for entry in journal {
-        if let Entry::Empty = entry {
-            break;
+    journal
+        .iter()
+        .copied()
+        .take_while(|entry| !matches!(entry, Entry::Empty))
+        .collect(heap)
+}
+
+impl From<ReadFault> for Shot {
+    ghost from_gives = { λ f s. s ≡ Refused (read_number f.reason) f.line };
+
+    fn from(fault: ReadFault) -> Shot {
+        Shot::Refused {
+            number: fault.number(),
+            place: fault.line as u64,
         }
-        entries.push(*entry)?;
-    }
-    Ok(entries)
-}
-
-fn refused(refusal: Refusal) -> Shot
-    ensures { result ≡ Shot.Refused (fault_number refusal.fault) refusal.place }
-{
-    Shot::Refused {
-        number: refusal.fault.number(),
-        place: refusal.place,
     }
 }
 
-// The refusal that a turn of a shot came to, if it was refused.
-fn refusal(reply: Reply) -> Option<Shot> {
-    match reply {
-        Reply::NotAccepted(fault) => Some(Shot::Refused {
+impl From<CheckFault> for Shot {
+    ghost from_gives = { λ f s. s ≡ Refused (check_number f) (fault_cell f) };
+
+    fn from(fault: CheckFault) -> Shot {
+        Shot::Refused {
             number: fault.number(),
             place: fault.cell() as u64,
-        }),
-        Reply::Refused(refusal) => Some(refused(refusal)),
-        _ => None,
+        }
     }
 }
 
-// The steps of a run, and why they stopped.
-fn ran(reply: Reply) -> (u64, Stop) {
-    match reply {
-        Reply::Ran(steps, stop) => (steps, stop),
-        _ => (0, Stop::Budget),
-    }
-}
+impl From<Refusal> for Shot {
+    ghost from_gives = { λ r s. s ≡ Refused (fault_number r.fault) r.place };
 
-// The cell counts of a value and of its type, none where the run stopped before one.
-fn collected(reply: Reply) -> (usize, usize) {
-    match reply {
-        Reply::Collected(cells, kind_cells) => (cells, kind_cells),
-        _ => (0, 0),
+    fn from(refusal: Refusal) -> Shot {
+        Shot::Refused {
+            number: refusal.fault.number(),
+            place: refusal.place,
+        }
     }
 }
 
@@ -112,9 +97,9 @@ fn collected(reply: Reply) -> (usize, usize) {
 fn play_cells(heap: Global, types: &[TypeCell], terms: &[TermCell]) -> Result<Shot, AllocError> {
     let outcomes = outcomes(heap)?;
     let mut journal = vec![in heap; Entry::Empty; PULSES]?;
-    let mut work = vec![in heap; BLANK_TERM; MOST_RUNNING_CELLS]?;
-    let mut value = vec![in heap; BLANK_TERM; MOST_RUNNING_CELLS]?;
-    let mut kinds = vec![in heap; BLANK_TYPE; MOST_TYPE_CELLS]?;
+    let mut work = vec![in heap; TermCell::default(); MOST_RUNNING_CELLS]?;
+    let mut value = vec![in heap; TermCell::default(); MOST_RUNNING_CELLS]?;
+    let mut kinds = vec![in heap; TypeCell::default(); MOST_TYPE_CELLS]?;
     let row = [
         Turn::Load(types, terms),
         Turn::Run(BUDGET, MOST_RUNNING_CELLS),
@@ -123,33 +108,36 @@ fn play_cells(heap: Global, types: &[TypeCell], terms: &[TermCell]) -> Result<Sh
     let mut replies = [Reply::Unplayed; 3];
     let tape = Tape::new(CAPACITY, &outcomes, &mut journal);
     let controller = play_row(tape, &row, &mut work, &mut value, &mut kinds, &mut replies);
-    if let Some(shot) = refusal(replies[0]) {
-        return Ok(shot);
-    }
-    if let Some(shot) = refusal(replies[1]) {
-        return Ok(shot);
-    }
-    let (steps, stop) = ran(replies[1]);
-    let (cells, kind_cells) = collected(replies[2]);
+    let (steps, stop) = match replies {
+        [Reply::NotAccepted(fault), ..] => return Ok(Shot::from(fault)),
+        [Reply::Refused(refusal), ..] | [_, Reply::Refused(refusal), _] => return Ok(Shot::from(
+            refusal,
+        )),
+        [_, Reply::Ran(steps, stop), _] => (steps, stop),
+        _ => (0, Stop::Budget),
+    };
+    // A run that stopped before a value has none to collect.
+    let (cells, kind_cells) = match replies {
+        [.., Reply::Collected(cells, kind_cells)] => (cells, kind_cells),
+        _ => (0, 0),
+    };
+    value.truncate(cells);
+    kinds.truncate(kind_cells);
     Ok(Shot::Ran {
         steps,
         stop,
-        value: value.iter().take(cells).copied().collect(heap)?,
-        kinds: kinds.iter().take(kind_cells).copied().collect(heap)?,
+        value,
+        kinds,
         journal: pulses_made(heap, controller.register().journal())?,
     })
 }
 
 /// Plays the shot of a stored program's text.
 pub fn play(heap: Global, text: &[u8]) -> Result<Shot, AllocError> {
-    let mut types = vec![in heap; BLANK_TYPE; MOST_TYPE_CELLS]?;
-    let mut terms = vec![in heap; BLANK_TERM; MOST_TERM_CELLS]?;
-    let (type_count, term_count) = match read(text, &mut types, &mut terms) {
-        Ok(counts) => counts,
-        Err(fault) => return Ok(Shot::Refused {
-            number: fault.number(),
-            place: fault.line as u64,
-        }),
-    };
-    play_cells(heap, &types[0..type_count], &terms[0..term_count])
+    let mut types = vec![in heap; TypeCell::default(); MOST_TYPE_CELLS]?;
+    let mut terms = vec![in heap; TermCell::default(); MOST_TERM_CELLS]?;
+    match read(text, &mut types, &mut terms) {
+        Ok((kinds, ops)) => play_cells(heap, &types[..kinds], &terms[..ops]),
+        Err(fault) => Ok(Shot::from(fault)),
+    }
 }
