@@ -3,13 +3,13 @@
 ghost use Rattle.std.specs.Prelude.{◌≡◌, take};
 ghost use Rattle.agreement.specs.Rules.{renamed_rule};
 
-use crate::tally::{GOES_ON, Subject, Tally, VALUE};
+use crate::tally::{Outcome, Tally};
 use calculus::TermCell;
 use checker::check;
 use finder::{Rule, find};
 use listing::{listing, play};
 use samples::Draft;
-use second::{Place, SecondRule, second_check, second_find, second_shot};
+use second::{SecondRule, second_check, second_find, second_shot};
 use std::alloc::{AllocError, Global};
 use std::io;
 
@@ -27,28 +27,21 @@ fn seen(text: &[u8]) -> &[u8]
     }
 }
 
-// The number that a listing refuses by, or else how it stopped.
-fn outcome(listing: &str) -> u16 {
-    for line in listing.lines() {
-        if let Some(rest) = line.strip_prefix("X ") {
-            if let Some((number, _)) = rest.split_once(' ') {
-                return number.parse::<u16>().unwrap_or(u16::MAX);
-            }
-        }
-    }
-    match listing.lines().next() {
-        Some(head) if head.ends_with(" 1") => GOES_ON,
-        _ => VALUE,
+// The number that a listing refuses by, or else how its run ended.
+fn outcome(listing: &str) -> Outcome {
+    let refusal = listing.lines().find_map(|line| line
+        .strip_prefix("X ")
+        .and_then(|rest| rest.split_once(' ')));
+    match (refusal, listing.lines().next()) {
+        (Some((number, _)), _) => Outcome::ShotRefused(number.parse().unwrap_or(u16::MAX)),
+        (None, Some(head)) if head.ends_with(" 1") => Outcome::ShotBudget,
+        _ => Outcome::ShotValue,
     }
 }
 
 /// A text's bytes, each as a character.
 pub fn shown(heap: Global, text: &[u8]) -> Result<String, AllocError> {
-    let mut all = String::new(heap);
-    for b in text {
-        all.push(*b as char)?;
-    }
-    Ok(all)
+    text.iter().map(|b| *b as char).collect(heap)
 }
 
 /// Compares the shots of a stored program; a difference is printed whole.
@@ -58,7 +51,7 @@ pub fn compare_shots(rt: &HostRuntime, tally: &mut Tally, text: &[u8]) -> io::Re
     let first = listing(heap, &play(heap, text)?)?;
     let second = second_shot(heap, text)?;
     if first.as_bytes() == second.as_bytes() {
-        tally.agree(Subject::Shot, outcome(first.as_str()))?;
+        tally.agree(outcome(first.as_str()))?;
         return Ok(true);
     }
     tally.differ();
@@ -69,17 +62,15 @@ pub fn compare_shots(rt: &HostRuntime, tally: &mut Tally, text: &[u8]) -> io::Re
 
 /// Compares the checks of a program's cells.
 pub fn compare_checks(rt: &HostRuntime, tally: &mut Tally, draft: &Draft) -> io::Result<()> {
-    let first = match check(&draft.types, &draft.terms) {
-        Ok(()) => None,
-        Err(fault) => Some((fault.number(), fault.cell())),
-    };
+    let first = check(&draft.types, &draft.terms)
+        .err()
+        .map(|fault| (fault.number(), fault.cell()));
     let second = second_check(tally.heap(), &draft.types, &draft.terms)?;
     if first == second {
-        let number = match first {
-            Some((number, _)) => number,
-            None => VALUE,
-        };
-        tally.agree(Subject::Check, number)?;
+        tally.agree(match first {
+            None => Outcome::CheckAccepted,
+            Some((number, _)) => Outcome::CheckRefused(number),
+        })?;
         return Ok(());
     }
     tally.differ();
@@ -104,19 +95,16 @@ fn renamed(rule: Rule) -> SecondRule
 
 /// Compares where the next step of any cells is.
 pub fn compare_finds(rt: &HostRuntime, tally: &mut Tally, cells: &[TermCell]) -> io::Result<()> {
-    let first = match find(cells) {
-        Ok(None) => Ok(Place::Rests),
-        Ok(Some((rule, cell))) => Ok(Place::Works(renamed(rule), cell)),
-        Err(fault) => Err((fault.number(), fault.cell())),
-    };
+    let first = find(cells)
+        .map(|found| found.map(|(rule, cell)| (renamed(rule), cell)))
+        .map_err(|fault| (fault.number(), fault.cell()));
     let second = second_find(tally.heap(), cells)?;
     if first == second {
-        let outcome = match first {
-            Ok(Place::Rests) => VALUE,
-            Ok(_) => GOES_ON,
-            Err((number, _)) => number,
-        };
-        tally.agree(Subject::Find, outcome)?;
+        tally.agree(match first {
+            Ok(None) => Outcome::FindValue,
+            Ok(Some(_)) => Outcome::FindRule,
+            Err((number, _)) => Outcome::FindRefused(number),
+        })?;
         return Ok(());
     }
     tally.differ();

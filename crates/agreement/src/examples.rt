@@ -1,23 +1,36 @@
 //! Example programs from standard input, each after a line with its name and length.
 
-ghost use Rattle.std.specs.Prelude.{◌≤◌, length};
+ghost use Rattle.std.specs.Prelude.{◌<◌, ◌≤◌, length, IfSome};
 
 use crate::compare::{compare_shots, shown};
 use crate::tally::Tally;
-use std::alloc::{AllocError, Global};
 use std::io;
 
 // The name and the length of an example, from the line before it.
-fn heading(heap: Global, line: &str) -> Result<Option<(String, usize)>, AllocError> {
+fn heading(line: &str) -> Option<(&str, usize)> {
     let mut fields = line.split(' ');
-    let (Some(mark), Some(name), Some(length)) = (fields.next(), fields.next(), fields.next())
-    else {
-        return Ok(None);
-    };
-    match length.parse::<usize>() {
-        Ok(length) if mark == "@" => Ok(Some((String::from_str(heap, name)?, length))),
-        _ => Ok(None),
+    match (fields.next()?, fields.next()?, fields.next()?.parse().ok()?) {
+        ("@", name, length) => Some((name, length)),
+        _ => None,
     }
+}
+
+// The line that a text starts with, and what follows from its end on, if there is text.
+fn first_line(text: &[u8]) -> Option<(&[u8], &[u8])>
+    ensures { IfSome result (λ parts. length parts.1.now ≤ length text.now) }
+{
+    if text.is_empty() {
+        return None;
+    }
+    let end = text.iter().position(|b| *b == b'\n').unwrap_or(text.len());
+    Some(text.split_at(end))
+}
+
+// The program of so many bytes behind the byte that ends a line, and what follows it, where so much is there.
+fn program(after: &[u8], size: usize) -> Option<(&[u8], &[u8])>
+    ensures { IfSome result (λ parts. length parts.1.now < length after.now) }
+{
+    after.get(1..)?.split_at_checked(size)
 }
 
 // Compares the two interpreters on one example.
@@ -34,39 +47,20 @@ fn compare_example(
     }
 }
 
-// Where the line that starts at a place ends.
-fn line_end(input: &[u8], at: usize) -> usize
-    ensures { result ≤ length input.now }
-{
-    for (i, b) in input.iter().enumerate() {
-        if i >= at && *b == b'\n' {
-            return i;
-        }
-    }
-    input.len()
-}
-
 /// Compares the two interpreters on each example of the input.
 pub fn compare_examples(rt: &HostRuntime, tally: &mut Tally, input: &[u8]) -> io::Result<()> {
-    let heap = tally.heap();
-    let mut at: usize = 0;
-    for _ in 0..input.len() {
-        let start = line_end(input, at);
-        if at > start {
-            return Ok(());
-        }
-        let line = shown(heap, &input[at..start])?;
-        let Some((name, length)) = heading(heap, line.as_str())? else {
+    let mut rest = input;
+    while let Some((line, after)) = first_line(rest) {
+        let line = shown(tally.heap(), line)?;
+        let Some((name, size)) = heading(line.as_str()) else {
             return Ok(());
         };
-        let start = start.saturating_add(1);
-        let end = start.saturating_add(length);
-        if start > end || end > input.len() {
+        let Some((program, next)) = program(after, size) else {
             tally.differ();
             return println!(rt; "example {name} is cut short");
-        }
-        compare_example(rt, tally, name.as_str(), &input[start..end])?;
-        at = end;
+        };
+        compare_example(rt, tally, name, program)?;
+        rest = next;
     }
     Ok(())
 }

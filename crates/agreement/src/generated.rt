@@ -25,19 +25,24 @@ pub fn compare_drawn(rt: &HostRuntime, tally: &mut Tally, random: &mut Random) -
     Ok(())
 }
 
-// Compares a program with changed cells, or with a changed text.
-fn compare_one_damaged(
+// Compares a program with changed cells.
+fn compare_changed_cells(
     rt: &HostRuntime,
     tally: &mut Tally,
     random: &mut Random,
-    in_cells: bool,
 ) -> io::Result<()> {
     let mut draft = any_program(tally.heap(), random, false)?;
-    if in_cells {
-        damage_cells(random, &mut draft)?;
-        return compare_draft(rt, tally, &draft);
-    }
-    let text = draft.text()?;
+    damage_cells(random, &mut draft)?;
+    compare_draft(rt, tally, &draft)
+}
+
+// Compares a program with a changed text.
+fn compare_changed_text(
+    rt: &HostRuntime,
+    tally: &mut Tally,
+    random: &mut Random,
+) -> io::Result<()> {
+    let text = any_program(tally.heap(), random, false)?.text()?;
     let text = damage_text(tally.heap(), random, text.as_bytes())?;
     compare_shots(rt, tally, &text)?;
     Ok(())
@@ -45,8 +50,9 @@ fn compare_one_damaged(
 
 /// Compares programs with changed cells, and with changed texts.
 pub fn compare_damaged(rt: &HostRuntime, tally: &mut Tally, random: &mut Random) -> io::Result<()> {
-    for i in 0..1600 {
-        compare_one_damaged(rt, tally, random, i % 2 == 0)?;
+    for _ in 0..800 {
+        compare_changed_cells(rt, tally, random)?;
+        compare_changed_text(rt, tally, random)?;
     }
     Ok(())
 }
@@ -61,8 +67,8 @@ pub fn compare_many(
 ) -> io::Result<()> {
     for i in 0..count {
         match i % 10 {
-            6 | 7 => compare_one_damaged(rt, tally, random, true)?,
-            8 | 9 => compare_one_damaged(rt, tally, random, false)?,
+            6 | 7 => compare_changed_cells(rt, tally, random)?,
+            8 | 9 => compare_changed_text(rt, tally, random)?,
             place => {
                 let draft = any_program(tally.heap(), random, place == 0)?;
                 compare_draft(rt, tally, &draft)?;

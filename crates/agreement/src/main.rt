@@ -15,32 +15,34 @@ use tally::Tally;
 
 // A seed and a count from the arguments, if both are there.
 fn asked(rt: &HostRuntime) -> io::Result<Option<(u64, usize)>> {
-    let mut words = env::args(rt)?;
-    let _program = words.next();
+    let mut words = env::args(rt)?.skip(1);
     let (Some(seed), Some(count)) = (words.next(), words.next()) else {
         return Ok(None);
     };
-    match (seed.parse::<u64>(), count.parse::<usize>()) {
-        (Ok(seed), Ok(count)) => Ok(Some((seed, count))),
-        _ => Ok(None),
-    }
+    Ok(seed.parse().ok().zip(count.parse().ok()))
+}
+
+// Compares the examples of the input, and the programs that are generated.
+fn compare_all(rt: &HostRuntime, tally: &mut Tally) -> io::Result<()> {
+    let mut input = Vec::new(rt.alloc());
+    rt.stdin().read_to_end(&mut input)?;
+    examples::compare_examples(rt, tally, &input)?;
+    let mut random = Random::new(88_172_645_463_325_252);
+    generated::compare_drawn(rt, tally, &mut random)?;
+    generated::compare_damaged(rt, tally, &mut random)?;
+    generated::compare_limits(rt, tally)?;
+    generated::compare_long_tables(rt, tally)?;
+    generated::compare_running(rt, tally, &mut random)
 }
 
 fn main(rt: HostRuntime) -> io::Result<()> {
     let mut tally = Tally::new(rt.alloc());
-    if let Some((seed, count)) = asked(&rt)? {
-        let mut random = Random::new(seed.max(1));
-        generated::compare_many(&rt, &mut tally, &mut random, count)?;
-        return tally.print(&rt);
+    match asked(&rt)? {
+        Some((seed, count)) => {
+            let mut random = Random::new(seed.max(1));
+            generated::compare_many(&rt, &mut tally, &mut random, count)?;
+        }
+        None => compare_all(&rt, &mut tally)?,
     }
-    let mut input = Vec::new(rt.alloc());
-    rt.stdin().read_to_end(&mut input)?;
-    examples::compare_examples(&rt, &mut tally, &input)?;
-    let mut random = Random::new(88_172_645_463_325_252);
-    generated::compare_drawn(&rt, &mut tally, &mut random)?;
-    generated::compare_damaged(&rt, &mut tally, &mut random)?;
-    generated::compare_limits(&rt, &mut tally)?;
-    generated::compare_long_tables(&rt, &mut tally)?;
-    generated::compare_running(&rt, &mut tally, &mut random)?;
     tally.print(&rt)
 }

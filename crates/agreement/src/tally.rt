@@ -4,55 +4,43 @@ ghost use Rattle.std.specs.Prelude.{◌≡◌};
 
 use std::alloc::{AllocError, Global};
 use std::collections::BTreeMap;
-use std::io;
+use std::{fmt, io};
 
-/// What a comparison was of.
-#[derive(Clone, Copy)]
-pub enum Subject {
-    Shot,
-    Check,
-    Find,
+/// What both interpreters came to: of a shot, of a check, or of a find; a refusal has its number.
+#[derive(Clone, Copy, PartialEq, Eq, PartialOrd, Ord, Debug, Drop)]
+pub enum Outcome {
+    ShotValue,
+    ShotBudget,
+    ShotRefused(u16),
+    CheckAccepted,
+    CheckRefused(u16),
+    FindValue,
+    FindRule,
+    FindRefused(u16),
 }
 
-/// The outcome of a shot at a value, of a check that passes, and of a find at a value.
-pub const VALUE: u16 = 0;
+impl fmt::Display for Outcome {
+    fn fmt<W: fmt::Write>(&self, f: &mut fmt::Formatter<W>) -> fmt::Result {
+        match self {
+            Outcome::ShotValue => write!(f, "value"),
+            Outcome::ShotBudget => write!(f, "budget"),
+            Outcome::ShotRefused(number) => write!(f, "refused {number}"),
+            Outcome::CheckAccepted => write!(f, "check accepted"),
+            Outcome::CheckRefused(number) => write!(f, "check refused {number}"),
+            Outcome::FindValue => write!(f, "find value"),
+            Outcome::FindRule => write!(f, "find rule"),
+            Outcome::FindRefused(number) => write!(f, "find refused {number}"),
+        }
+    }
+}
 
-/// The outcome of a shot that spends its budget, and of a find with a rule.
-pub const GOES_ON: u16 = 1;
-
-/// Agreements by outcome, which is one of the two above or a fault's number, and what differed.
+/// Agreements by outcome, how many of them were of shots, and how often the interpreters differed.
 #[derive(Drop)]
 pub struct Tally {
     heap: Global,
-    shots: BTreeMap<u16, usize>,
-    checks: BTreeMap<u16, usize>,
-    finds: BTreeMap<u16, usize>,
-    compared: usize,
+    agreements: BTreeMap<Outcome, usize>,
+    shots: usize,
     differences: usize,
-}
-
-fn add(counts: &mut BTreeMap<u16, usize>, outcome: u16) -> Result<(), AllocError> {
-    let count = counts.entry(outcome)?.or_insert(0);
-    *count = count.saturating_add(1);
-    Ok(())
-}
-
-fn print_counts(
-    rt: &HostRuntime,
-    counts: &BTreeMap<u16, usize>,
-    names: [&str; 3],
-) -> io::Result<()> {
-    for (outcome, count) in counts.iter() {
-        let outcome = *outcome;
-        let count = *count;
-        let name = names[if outcome < 2 { outcome as usize } else { 2 }];
-        if outcome < 2 {
-            println!(rt; "{name} {count}")?;
-        } else {
-            println!(rt; "{name} {outcome} {count}")?;
-        }
-    }
-    Ok(())
 }
 
 impl Tally {
@@ -60,10 +48,8 @@ impl Tally {
     pub fn new(heap: Global) -> Tally {
         Tally {
             heap,
-            shots: BTreeMap::new(heap),
-            checks: BTreeMap::new(heap),
-            finds: BTreeMap::new(heap),
-            compared: 0,
+            agreements: BTreeMap::new(heap),
+            shots: 0,
             differences: 0,
         }
     }
@@ -76,15 +62,16 @@ impl Tally {
     }
 
     /// One more comparison that agreed, with its outcome.
-    pub fn agree(&mut self, subject: Subject, outcome: u16) -> Result<(), AllocError> {
-        match subject {
-            Subject::Shot => {
-                self.compared = self.compared.saturating_add(1);
-                add(&mut self.shots, outcome)
-            }
-            Subject::Check => add(&mut self.checks, outcome),
-            Subject::Find => add(&mut self.finds, outcome),
+    pub fn agree(&mut self, outcome: Outcome) -> Result<(), AllocError> {
+        if matches!(
+            outcome,
+            Outcome::ShotValue | Outcome::ShotBudget | Outcome::ShotRefused(_)
+        ) {
+            self.shots = self.shots.saturating_add(1);
         }
+        let count = self.agreements.entry(outcome)?.or_insert(0);
+        *count = count.saturating_add(1);
+        Ok(())
     }
 
     /// One more difference.
@@ -94,16 +81,10 @@ impl Tally {
 
     /// A line for each outcome, then how many differences there are, and how many programs agreed.
     pub fn print(&self, rt: &HostRuntime) -> io::Result<()> {
-        print_counts(rt, &self.shots, ["value", "budget", "refused"])?;
-        print_counts(
-            rt,
-            &self.checks,
-            ["check accepted", "check", "check refused"],
-        )?;
-        print_counts(rt, &self.finds, ["find value", "find rule", "find refused"])?;
-        let differences = self.differences;
-        let compared = self.compared;
-        println!(rt; "differences {differences}")?;
-        println!(rt; "programs {compared}")
+        for (outcome, count) in self.agreements.iter() {
+            println!(rt; "{outcome} {count}")?;
+        }
+        println!(rt; "differences {}", self.differences)?;
+        println!(rt; "programs {}", self.shots)
     }
 }

@@ -2,22 +2,20 @@
 
 use crate::drafts::{Draft, as_claim};
 use crate::random::Random;
-use calculus::{TermCell, op_shape};
+use calculus::{TermCell, TypeCell, op_shape};
 use std::alloc::{AllocError, Global};
 
-/// An op letter at random.
-pub fn any_op(random: &mut Random) -> char {
-    let ops = b"v01mnsglapdiq";
-    let at = random.below(13);
-    if at < 13 { ops[at] as char } else { 'v' }
-}
+// The letters of ops, and of those without parts.
+const OPS: [char; 13] = [
+    'v', '0', '1', 'm', 'n', 's', 'g', 'l', 'a', 'p', 'd', 'i', 'q',
+];
 
-/// A kind letter at random.
-pub fn any_letter(random: &mut Random) -> char {
-    let kinds = b"bqu!>*";
-    let at = random.below(6);
-    if at < 6 { kinds[at] as char } else { 'b' }
-}
+const LEAVES: [char; 8] = ['v', '0', '1', 'm', 'n', 's', 'g', 'q'];
+
+const KINDS: [char; 6] = ['b', 'q', 'u', '!', '>', '*'];
+
+// Bytes that mean something in a stored program, and one that does not.
+const BYTES: &[u8] = b"\n\t\r 0123456789QLTMEbqu!>*v01mnsglapdiqx\xc8";
 
 // Changes one term cell: its op, its argument or its claim.
 fn change_term(random: &mut Random, draft: &mut Draft) {
@@ -27,17 +25,17 @@ fn change_term(random: &mut Random, draft: &mut Draft) {
         return;
     };
     match random.below(7) {
-        0 => cell.op = any_op(random),
+        0 => cell.op = random.pick(&OPS),
         1 => cell.argument = as_claim(random.below(40)),
         2 => *cell = TermCell {
             op: 'g',
             argument: 8,
-            claim: cell.claim,
+            ..*cell
         },
         3 => *cell = TermCell {
             op: 'q',
             argument: as_claim(random.below(34)),
-            claim: cell.claim,
+            ..*cell
         },
         4 => cell.claim = as_claim(places.saturating_add(random.below(3))),
         _ => cell.claim = as_claim(random.below(places)),
@@ -47,37 +45,27 @@ fn change_term(random: &mut Random, draft: &mut Draft) {
 fn change_type(random: &mut Random, draft: &mut Draft) {
     let at = random.below(draft.types.len());
     if let Some(cell) = draft.types.get_mut(at) {
-        cell.kind = any_letter(random);
+        cell.kind = random.pick(&KINDS);
     }
 }
 
-// Drops a term cell, or repeats one.
-fn shift_terms(random: &mut Random, draft: &mut Draft) -> Result<(), AllocError> {
-    let at = random.below(draft.terms.len());
-    if at >= draft.terms.len() {
+// Drops a cell, or puts another in at its place.
+fn shift<T: Copy, F: FnOnce(&mut Random, T) -> T>(
+    random: &mut Random,
+    cells: &mut Vec<T>,
+    another: F,
+) -> Result<(), AllocError>
+    requires { F.IsAlwaysCallable another }
+{
+    let at = random.below(cells.len());
+    let Some(&cell) = cells.get(at) else {
         return Ok(());
-    }
+    };
     if random.chance(50) {
-        let _ = draft.terms.remove(at);
-        return Ok(());
+        cells.remove(at);
+    } else {
+        cells.insert(at, another(random, cell))?;
     }
-    let cell = draft.terms[at];
-    draft.terms.insert(at, cell)?;
-    Ok(())
-}
-
-// Drops a type cell, or puts one in.
-fn shift_types(random: &mut Random, draft: &mut Draft) -> Result<(), AllocError> {
-    let at = random.below(draft.types.len());
-    if at >= draft.types.len() {
-        return Ok(());
-    }
-    if random.chance(50) {
-        let _ = draft.types.remove(at);
-        return Ok(());
-    }
-    let kind = any_letter(random);
-    draft.types.insert(at, calculus::TypeCell { kind })?;
     Ok(())
 }
 
@@ -85,18 +73,17 @@ fn shift_types(random: &mut Random, draft: &mut Draft) -> Result<(), AllocError>
 pub fn damage_cells(random: &mut Random, draft: &mut Draft) -> Result<(), AllocError> {
     match random.below(10) {
         0 => change_type(random, draft),
-        1 => shift_types(random, draft)?,
-        2 | 3 => shift_terms(random, draft)?,
+        1 => shift(
+            random,
+            &mut draft.types,
+            |random, _| TypeCell {
+                kind: random.pick(&KINDS),
+            },
+        )?,
+        2 | 3 => shift(random, &mut draft.terms, |_, cell| cell)?,
         _ => change_term(random, draft),
     }
     Ok(())
-}
-
-// A byte that means something in a stored program, mostly.
-fn any_byte(random: &mut Random) -> u8 {
-    let bytes = b"\n\t\r 0123456789QLTMEbqu!>*v01mnsglapdiqx";
-    let at = random.below(40);
-    if at < bytes.len() { bytes[at] } else { 200 }
 }
 
 // The text with one line, counted from 0, left out or written twice.
@@ -107,50 +94,24 @@ fn repeat_line(
     times: usize,
 ) -> Result<Vec<u8>, AllocError> {
     let mut all = Vec::new(heap);
-    let mut current = Vec::new(heap);
-    let mut at: usize = 0;
-    for b in text {
-        current.push(*b)?;
-        if *b == b'\n' {
-            for _ in 0..if at == line { times } else { 1 } {
-                all.extend_from_slice(&current)?;
-            }
-            current.clear();
-            at = at.saturating_add(1);
+    for (at, bytes) in text.split_inclusive(|b| *b == b'\n').enumerate() {
+        for _ in 0..if at == line { times } else { 1 } {
+            all.extend_from_slice(bytes)?;
         }
     }
-    all.extend_from_slice(&current)?;
     Ok(all)
 }
 
-// The first place from one on, going round, that holds a digit.
-fn digit_from(text: &[u8], from: usize) -> usize {
-    for (i, b) in text.iter().enumerate().skip(from) {
-        if *b >= b'0' && *b <= b'9' {
-            return i;
-        }
-    }
-    from
-}
-
-// Puts bytes before a digit, so that a number is malformed or another.
+// Puts bytes before the first digit from a place on, or there if none follows, so that a number is malformed or another.
 fn change_number(heap: Global, random: &mut Random, text: &[u8]) -> Result<Vec<u8>, AllocError> {
-    let at = digit_from(text, random.below(text.len()));
-    let more: &[u8] = match random.below(6) {
-        0 => b"0",
-        1 => b"6553",
-        2 => b"99999",
-        3 => b"\t",
-        4 => b"-",
-        _ => b"1",
-    };
-    let mut all = Vec::new(heap);
-    for (i, b) in text.iter().enumerate() {
-        if i == at {
-            all.extend_from_slice(more)?;
-        }
-        all.push(*b)?;
-    }
+    let (skipped, rest) = text.split_at(random.below(text.len()));
+    let digit = rest.iter().position(|b| b.is_ascii_digit()).unwrap_or(0);
+    let (before, after) = rest.split_at(digit);
+    let mores: [&[u8]; 6] = [b"0", b"6553", b"99999", b"\t", b"-", b"1"];
+    let mut all = Vec::from_slice(heap, skipped)?;
+    all.extend_from_slice(before)?;
+    all.extend_from_slice(random.pick(&mores))?;
+    all.extend_from_slice(after)?;
     Ok(all)
 }
 
@@ -158,7 +119,7 @@ fn change_number(heap: Global, random: &mut Random, text: &[u8]) -> Result<Vec<u
 fn change_byte(heap: Global, random: &mut Random, text: &[u8]) -> Result<Vec<u8>, AllocError> {
     let mut all = Vec::from_slice(heap, text)?;
     let at = random.below(text.len());
-    let byte = any_byte(random);
+    let byte = random.pick(BYTES);
     if at >= all.len() {
         return Ok(all);
     }
@@ -173,19 +134,12 @@ fn change_byte(heap: Global, random: &mut Random, text: &[u8]) -> Result<Vec<u8>
     Ok(all)
 }
 
+// Another line 1 in place of the four bytes that it is.
 fn change_header(heap: Global, random: &mut Random, text: &[u8]) -> Result<Vec<u8>, AllocError> {
-    let header: &[u8] = match random.below(5) {
-        0 => b"QL\t2",
-        1 => b"QL 1",
-        2 => b"QL\t1\r",
-        3 => b"",
-        _ => b"ql\t1",
-    };
-    let mut all = Vec::from_slice(heap, header)?;
-    for (i, b) in text.iter().enumerate() {
-        if i >= 4 {
-            all.push(*b)?;
-        }
+    let headers: [&[u8]; 5] = [b"QL\t2", b"QL 1", b"QL\t1\r", b"", b"ql\t1"];
+    let mut all = Vec::from_slice(heap, random.pick(&headers))?;
+    if let Some(rest) = text.get(4..) {
+        all.extend_from_slice(rest)?;
     }
     Ok(all)
 }
@@ -205,7 +159,7 @@ pub fn damage_text(heap: Global, random: &mut Random, text: &[u8]) -> Result<Vec
         3 | 4 => change_number(heap, random, text),
         5 => {
             let mut all = Vec::from_slice(heap, text)?;
-            all.push(any_byte(random))?;
+            all.push(random.pick(BYTES))?;
             Ok(all)
         }
         _ => change_byte(heap, random, text),
@@ -247,22 +201,13 @@ pub fn any_running(
         }
         let is_leaf = due.saturating_add(i) > most / 2;
         let op = if is_leaf {
-            any_leaf(random)
+            random.pick(&LEAVES)
         } else {
-            any_op(random)
+            random.pick(&OPS)
         };
         cells.push(any_cell(random, op, as_claim(i)))?;
-        let parts = match op_shape(op) {
-            Some(shape) => shape.parts,
-            None => 0,
-        };
+        let parts = op_shape(op).map_or(0, |shape| shape.parts);
         due = due.saturating_sub(1).saturating_add(parts);
     }
     Ok(cells)
-}
-
-fn any_leaf(random: &mut Random) -> char {
-    let leaves = b"v01mnsgq";
-    let at = random.below(8);
-    if at < 8 { leaves[at] as char } else { 'v' }
 }

@@ -14,18 +14,6 @@ pub struct Draft {
     pub terms: Vec<TermCell>,
 }
 
-// Whether a code stands at a place of a table.
-fn stands_at(types: &[TypeCell], code: &[TypeCell], place: usize) -> bool {
-    let mut at = place;
-    for cell in code {
-        match types.get(at) {
-            Some(other) if other.kind == cell.kind => at = at.saturating_add(1),
-            _ => return false,
-        }
-    }
-    true
-}
-
 /// A place as a claim holds it.
 pub(crate) fn as_claim(place: usize) -> u16
     ensures { result ≡ min place 65535 }
@@ -49,10 +37,8 @@ impl Draft {
         write_kind(kind, &mut code)?;
         let end = self.types.len();
         if !is_new {
-            for place in 0..end {
-                if stands_at(&self.types, &code, place) {
-                    return Ok(as_claim(place));
-                }
+            if let Some(place) = (0..end).find(|&place| self.types[place..].starts_with(&code)) {
+                return Ok(as_claim(place));
             }
         }
         self.types.extend_from_slice(&code)?;
@@ -86,9 +72,10 @@ impl Draft {
             ) else {
                 return Ok(());
             };
+            let argument = argument.parse().unwrap_or(u16::MAX);
+            let claim = claim.parse().unwrap_or(u16::MAX);
             for op in op.chars() {
-                let argument = argument.parse::<u16>().unwrap_or(u16::MAX);
-                self.cell(op, argument, claim.parse::<u16>().unwrap_or(u16::MAX))?;
+                self.cell(op, argument, claim)?;
             }
         }
         Ok(())
@@ -106,35 +93,16 @@ impl Draft {
         Ok(())
     }
 
-    fn type_lines(&self, text: &mut String) -> Result<(), AllocError> {
-        for cell in self.types.iter() {
-            let kind = cell.kind;
-            let line = format!(in self.heap; "T\t{kind}\n")?;
-            text.push_str(line.as_str())?;
-        }
-        Ok(())
-    }
-
-    fn term_lines(&self, text: &mut String) -> Result<(), AllocError> {
-        for cell in self.terms.iter() {
-            let op = cell.op;
-            let argument = cell.argument;
-            let claim = cell.claim;
-            let line = format!(in self.heap; "M\t{op}\t{argument}\t{claim}\n")?;
-            text.push_str(line.as_str())?;
-        }
-        Ok(())
-    }
-
     /// The text that stores the cells.
     pub fn text(&self) -> Result<String, AllocError> {
         let mut text = String::from_str(self.heap, "QL\t1\n")?;
-        self.type_lines(&mut text)?;
-        self.term_lines(&mut text)?;
-        let types = self.types.len();
-        let terms = self.terms.len();
-        let line = format!(in self.heap; "E\t{types}\t{terms}\n")?;
-        text.push_str(line.as_str())?;
+        for cell in self.types.iter() {
+            writeln!(text, "T\t{}", cell.kind)?;
+        }
+        for cell in self.terms.iter() {
+            writeln!(text, "M\t{}\t{}\t{}", cell.op, cell.argument, cell.claim)?;
+        }
+        writeln!(text, "E\t{}\t{}", self.types.len(), self.terms.len())?;
         Ok(text)
     }
 }

@@ -1,12 +1,14 @@
 //! Terms drawn at random by the typing rules, from the root down, with a claim at each node.
 
-ghost use Rattle.std.specs.Prelude.{◌≡◌, ◌+◌, ◌-◌, ◌^◌, if◌then◌else◌, vec_len, OnOk, nat_lt};
+ghost use Rattle.std.specs.Prelude.{◌≡◌, ◌+◌, vec_len, OnOk};
 
-use crate::any::{any_kind, arrow, pair};
+use crate::any::any_kind;
 use crate::drafts::Draft;
 use crate::random::Random;
-use second::{Kind, is_below, same};
+use second::{Head, Kind, is_below, same};
 use std::alloc::{AllocError, Global};
+use std::collections::BTreeSet;
+use std::mem;
 
 // What is left to be made.
 #[derive(Drop)]
@@ -18,40 +20,23 @@ pub(crate) enum Task {
     // The end of binders, down to so many.
     Leave(usize),
     // The variables that were spent before a function with marks.
-    Reopen(u64),
+    Reopen(BTreeSet<usize>),
     // Before the branches of a condition, between them, and after.
     Fork,
     Turn,
     Join,
 }
 
-// The program so far, the variables in scope, which of them are spent, and the tasks, the next one last.
+// The program so far, the variables in scope, the levels of those that are spent, and the tasks, the next one last.
 #[derive(Drop)]
 pub(crate) struct Maker {
     pub(crate) heap: Global,
     pub(crate) draft: Draft,
     pub(crate) scope: Vec<Kind>,
-    pub(crate) spent: u64,
-    pub(crate) forks: Vec<u64>,
+    pub(crate) spent: BTreeSet<usize>,
+    pub(crate) forks: Vec<BTreeSet<usize>>,
     pub(crate) tasks: Vec<Task>,
     pub(crate) is_careless: bool,
-}
-
-pub(crate) fn bit(level: usize) -> u64
-    ensures { result ≡ (if nat_lt level 64 then 2 ^ level else 0) }
-{
-    if level < 64 { 1u64 << level } else { 0 }
-}
-
-// The levels below one.
-pub(crate) fn under(level: usize) -> u64
-    ensures { result ≡ (if nat_lt level 64 then 2 ^ level - 1 else 2 ^ 64 - 1) }
-{
-    if level < 64 {
-        (1u64 << level) - 1
-    } else {
-        u64::MAX
-    }
 }
 
 impl Maker {
@@ -70,8 +55,7 @@ impl Maker {
     pub(crate) fn due(&mut self, kind: &Kind, fuel: u32) -> Result<(), AllocError>
         ensures { OnOk result (vec_len self.new.tasks ≡ vec_len self.old.tasks + 1) }
     {
-        let kind = kind.marked(self.heap, 0)?;
-        self.tasks.push(Task::Make(kind, fuel))?;
+        self.tasks.push(Task::Make(kind.clone()?, fuel))?;
         Ok(())
     }
 
@@ -80,7 +64,7 @@ impl Maker {
         let mut found = None;
         let mut seen: usize = 0;
         for (level, own) in self.scope.iter().enumerate() {
-            let is_spent = own.marks() == 0 && self.spent & bit(level) != 0;
+            let is_spent = own.marks == 0 && self.spent.contains(&level);
             if (!is_spent || self.is_careless) && is_below(own, kind) {
                 seen = seen.saturating_add(1);
                 if random.below(seen) == 0 {
@@ -97,7 +81,7 @@ impl Maker {
         level: usize,
         kind: &Kind,
     ) -> Result<(), AllocError> {
-        self.spent |= bit(level);
+        self.spent.insert(level)?;
         let index = self.scope.len().saturating_sub(level).saturating_sub(1);
         self.emit(random, 'v', u16::try_from(index).unwrap_or(0), kind)
     }
@@ -105,39 +89,34 @@ impl Maker {
     // The argument type of a function in scope that has a result, or one at random.
     fn argument(&self, random: &mut Random, res: &Kind) -> Result<Kind, AllocError> {
         for own in self.scope.iter() {
-            if let Kind::Arrow(_, a, b) = own {
+            if let Head::Arrow(a, b) = &own.head {
                 if same(b, res) && random.chance(60) {
-                    return a.marked(self.heap, 0);
+                    return Kind::clone(a);
                 }
             }
         }
-        let depth = if random.chance(60) { 0 } else { 1 };
-        any_kind(random, self.heap, depth, true)
+        let is_deeper = !random.chance(60);
+        any_kind(random, self.heap, u32::from(is_deeper), true)
     }
 
     fn apply(&mut self, random: &mut Random, kind: &Kind, fuel: u32) -> Result<(), AllocError> {
         let argument = self.argument(random, kind)?;
-        let function = arrow(
-            self.heap,
-            0,
-            argument.marked(self.heap, 0)?,
-            kind.marked(self.heap, 0)?,
-        )?;
+        let function = Kind::arrow(self.heap, 0, argument.clone()?, kind.clone()?)?;
         self.emit(random, 'a', 0, kind)?;
         self.due(&argument, fuel)?;
         self.due(&function, fuel)
     }
 
     fn split(&mut self, random: &mut Random, kind: &Kind, fuel: u32) -> Result<(), AllocError> {
-        let marks = if random.chance(25) { 1 } else { 0 };
+        let marks = usize::from(random.chance(25));
         let a = any_kind(random, self.heap, 1, marks == 0)?;
         let b = any_kind(random, self.heap, 1, marks == 0)?;
-        let (x, y) = (a.marked(self.heap, marks)?, b.marked(self.heap, marks)?);
+        let (x, y) = (a.marked(marks)?, b.marked(marks)?);
         self.emit(random, 'd', 0, kind)?;
         self.tasks.push(Task::Leave(self.scope.len()))?;
         self.due(kind, fuel)?;
         self.tasks.push(Task::Bind(x, y))?;
-        self.due(&pair(self.heap, marks, a, b)?, fuel)
+        self.due(&Kind::pair(self.heap, marks, a, b)?, fuel)
     }
 
     fn choose(&mut self, random: &mut Random, kind: &Kind, fuel: u32) -> Result<(), AllocError> {
@@ -147,7 +126,7 @@ impl Maker {
         self.tasks.push(Task::Turn)?;
         self.due(kind, fuel)?;
         self.tasks.push(Task::Fork)?;
-        self.due(&Kind::Bit(0), fuel)
+        self.due(&Head::Bit.marked(0), fuel)
     }
 
     // Emits the root of a term and leaves its parts to be made.
@@ -177,16 +156,20 @@ impl Maker {
             }
             Task::Leave(level) => {
                 self.scope.truncate(level);
-                self.spent &= under(level);
+                self.spent.retain(|at| *at < level);
             }
             Task::Reopen(spent) => self.spent = spent,
-            Task::Fork => self.forks.push(self.spent)?,
+            Task::Fork => self.forks.push(self.spent.clone()?)?,
             Task::Turn => {
-                let before = self.forks.pop().unwrap_or(0);
-                self.forks.push(self.spent)?;
-                self.spent = before;
+                if let Some(before) = self.forks.pop() {
+                    self.forks.push(mem::replace(&mut self.spent, before))?;
+                }
             }
-            Task::Join => self.spent |= self.forks.pop().unwrap_or(0),
+            Task::Join => {
+                if let Some(mut one) = self.forks.pop() {
+                    self.spent.append(&mut one)?;
+                }
+            }
         }
         Ok(())
     }
@@ -204,7 +187,7 @@ pub fn any_program(
         heap,
         draft: Draft::new(heap),
         scope: Vec::new(heap),
-        spent: 0,
+        spent: BTreeSet::new(heap),
         forks: Vec::new(heap),
         tasks: Vec::new(heap),
         is_careless,

@@ -1,6 +1,6 @@
 //! A small generator of numbers, the same ones from the same seed.
 
-ghost use Rattle.std.specs.Prelude.{◌≡◌, ◌<◌};
+ghost use Rattle.std.specs.Prelude.{◌≡◌, ◌<◌, length, Contains};
 
 /// A generator of numbers by shifts and exclusive or.
 #[derive(Drop)]
@@ -29,12 +29,21 @@ impl Random {
 
     /// A number below another, or 0 where there is none.
     pub fn below(&mut self, limit: usize) -> usize
-        ensures { 0 < limit → result < limit }
+        ensures below { 0 < limit → result < limit }
+        ensures none { limit ≡ 0 → result ≡ 0 }
     {
         if limit == 0 {
             return 0;
         }
         ((self.draw() >> 8) % limit as u64) as usize
+    }
+
+    /// One of several.
+    pub(crate) fn pick<T: Copy>(&mut self, choices: &[T]) -> T
+        requires { 0 < length choices.now }
+        ensures { Contains choices.now result }
+    {
+        choices[self.below(choices.len())]
     }
 
     /// Whether one draw of a hundred parts falls to the first so many.

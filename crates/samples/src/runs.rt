@@ -14,7 +14,7 @@ pub fn copies(
 ) -> Result<Draft, AllocError> {
     let mut draft = common(heap)?;
     draft.kinds("*!>bbb")?;
-    let copied = if is_split { 1 } else { 0 };
+    let copied = u16::from(is_split);
     if is_split {
         draft.stored("d 0 0, p 0 17, l 0 7")?;
         padded(&mut draft, cells.saturating_sub(1))?;

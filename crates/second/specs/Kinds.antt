@@ -1,55 +1,52 @@
 -- Types with their leading marks counted.
-use Rattle.std.specs.Prelude.{ℕ, Bool, false, ◌&&◌, ◌==◌}
+use Rattle.std.specs.Prelude.{ℕ, Bool, true, false, ◌&&◌, ◌==◌}
 use Rattle.second.specs.declared.kinds.Kind.{Kind}
-use Rattle.second.specs.declared.kinds.Kind.TheVariants.{Bit, Qubit, Unit, Arrow', Pair'}
+use Rattle.second.specs.declared.kinds.Head.{Head}
+use Rattle.second.specs.declared.kinds.Head.TheVariants.{Bit, Qubit, Unit, Arrow', Pair'}
 
--- how many marks lead
-abbrev pub marks_of : Kind → ℕ
-marks_of (Bit n) = n
-marks_of (Qubit n) = n
-marks_of (Unit n) = n
-marks_of (Arrow' n p a q b) = n
-marks_of (Pair' n p a q b) = n
+abbrev bit_is : Head → Bool
+bit_is Bit = true
+bit_is Qubit = false
+bit_is Unit = false
+bit_is (Arrow' p i a q j b) = false
+bit_is (Pair' p i a q j b) = false
 
-abbrev bit_is : ℕ → Kind → Bool
-bit_is n (Bit m) = n == m
-bit_is n (Qubit m) = false
-bit_is n (Unit m) = false
-bit_is n (Arrow' m p a q b) = false
-bit_is n (Pair' m p a q b) = false
+abbrev qubit_is : Head → Bool
+qubit_is Bit = false
+qubit_is Qubit = true
+qubit_is Unit = false
+qubit_is (Arrow' p i a q j b) = false
+qubit_is (Pair' p i a q j b) = false
 
-abbrev qubit_is : ℕ → Kind → Bool
-qubit_is n (Bit m) = false
-qubit_is n (Qubit m) = n == m
-qubit_is n (Unit m) = false
-qubit_is n (Arrow' m p a q b) = false
-qubit_is n (Pair' m p a q b) = false
+abbrev unit_is : Head → Bool
+unit_is Bit = false
+unit_is Qubit = false
+unit_is Unit = true
+unit_is (Arrow' p i a q j b) = false
+unit_is (Pair' p i a q j b) = false
 
-abbrev unit_is : ℕ → Kind → Bool
-unit_is n (Bit m) = false
-unit_is n (Qubit m) = false
-unit_is n (Unit m) = n == m
-unit_is n (Arrow' m p a q b) = false
-unit_is n (Pair' m p a q b) = false
+abbrev arrow_is : ℕ → (Head → Bool) → ℕ → (Head → Bool) → Head → Bool
+arrow_is n f m g Bit = false
+arrow_is n f m g Qubit = false
+arrow_is n f m g Unit = false
+arrow_is n f m g (Arrow' p i a q j b) = n == i && f a && (m == j && g b)
+arrow_is n f m g (Pair' p i a q j b) = false
 
-abbrev arrow_is : ℕ → (Kind → Bool) → (Kind → Bool) → Kind → Bool
-arrow_is n f g (Bit m) = false
-arrow_is n f g (Qubit m) = false
-arrow_is n f g (Unit m) = false
-arrow_is n f g (Arrow' m p a q b) = n == m && f a && g b
-arrow_is n f g (Pair' m p a q b) = false
+abbrev pair_is : ℕ → (Head → Bool) → ℕ → (Head → Bool) → Head → Bool
+pair_is n f m g Bit = false
+pair_is n f m g Qubit = false
+pair_is n f m g Unit = false
+pair_is n f m g (Arrow' p i a q j b) = false
+pair_is n f m g (Pair' p i a q j b) = n == i && f a && (m == j && g b)
 
-abbrev pair_is : ℕ → (Kind → Bool) → (Kind → Bool) → Kind → Bool
-pair_is n f g (Bit m) = false
-pair_is n f g (Qubit m) = false
-pair_is n f g (Unit m) = false
-pair_is n f g (Arrow' m p a q b) = false
-pair_is n f g (Pair' m p a q b) = n == m && f a && g b
+-- two heads are the same, with the same marks on the types inside
+abbrev pub same_head : Head → Head → Bool
+same_head Bit h = bit_is h
+same_head Qubit h = qubit_is h
+same_head Unit h = unit_is h
+same_head (Arrow' p n a q m b) h = arrow_is n (same_head a) m (same_head b) h
+same_head (Pair' p n a q m b) h = pair_is n (same_head a) m (same_head b) h
 
 -- two types are the same tree
 abbrev pub same_kind : Kind → Kind → Bool
-same_kind (Bit n) k = bit_is n k
-same_kind (Qubit n) k = qubit_is n k
-same_kind (Unit n) k = unit_is n k
-same_kind (Arrow' n p a q b) k = arrow_is n (same_kind a) (same_kind b) k
-same_kind (Pair' n p a q b) k = pair_is n (same_kind a) (same_kind b) k
+same_kind a b = a.marks == b.marks && same_head a.head b.head

@@ -1,4 +1,5 @@
 pub mod Kinds
+pub mod Reasons
 pub mod Tables
 pub mod Terms
 pub mod Trees

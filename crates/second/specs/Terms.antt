@@ -6,10 +6,8 @@ use Rattle.second.specs.declared.terms.Term.{Term}
 use Rattle.second.specs.declared.terms.Term.TheVariants.{Variable, Constant, Lambda', Apply', Pair', Split', Choose'}
 use Rattle.second.specs.declared.seeks.SecondRule.{SecondRule}
 use Rattle.second.specs.declared.seeks.SecondRule.TheVariants.{Function, Then, Else, Prepare, Read, Gates, Pair as pair_rule}
-use Rattle.second.specs.declared.seeks.Place.{Place}
-use Rattle.second.specs.declared.seeks.Place.TheVariants.{Works, Stuck}
-use Rattle.second.specs.declared.tape.Pulse.{Pulse}
-use Rattle.second.specs.declared.tape.Pulse.TheVariants.{One as one_pulse, Two as two_pulse, Three as three_pulse}
+use Rattle.second.specs.declared.tape.Operands.{Operands}
+use Rattle.second.specs.declared.tape.Operands.TheVariants.{One as one_operand, Two as two_operands, Three as three_operands}
 
 abbrev pub leaf_qubit : Leaf → Option ℕ
 leaf_qubit Zero = None
@@ -45,19 +43,19 @@ two_qubits_of (Pair' p a q b) = both (qubit_of a) (qubit_of b)
 two_qubits_of (Split' x y p a q b) = None
 two_qubits_of (Choose' p a q b r c) = None
 
-abbrev one_of : ℕ → Option ℕ → Option Pulse
-one_of g None = None
-one_of g (Some h) = Some (one_pulse g h)
+abbrev one_of : Option ℕ → Option Operands
+one_of None = None
+one_of (Some h) = Some (one_operand h)
 
-abbrev two_of : ℕ → Option (ℕ × ℕ) → Option Pulse
-two_of g None = None
-two_of g (Some hs) = Some (two_pulse g hs.0 hs.1)
+abbrev two_of : Option (ℕ × ℕ) → Option Operands
+two_of None = None
+two_of (Some hs) = Some (two_operands hs.0 hs.1)
 
-abbrev three_of : ℕ → Option (ℕ × (ℕ × ℕ)) → Option Pulse
-three_of g None = None
-three_of g (Some hs) = Some (three_pulse g hs.0 hs.1.0 hs.1.1)
+abbrev three_of : Option (ℕ × (ℕ × ℕ)) → Option Operands
+three_of None = None
+three_of (Some hs) = Some (three_operands hs.0 hs.1.0 hs.1.1)
 
-abbrev three_qubits_of : Term → Option (ℕ × (ℕ × ℕ))
+abbrev pub three_qubits_of : Term → Option (ℕ × (ℕ × ℕ))
 three_qubits_of (Variable x) = None
 three_qubits_of (Constant c) = None
 three_qubits_of (Lambda' x p body) = None
@@ -66,9 +64,9 @@ three_qubits_of (Pair' p a q b) = both (qubit_of a) (two_qubits_of b)
 three_qubits_of (Split' x y p a q b) = None
 three_qubits_of (Choose' p a q b r c) = None
 
--- the pulse of a gate on as many qubits as it takes: one below 5, two below 7, else one and a pair
-abbrev pub pulse_of : ℕ → Term → Option Pulse
-pulse_of g t = cond (nat_lt g 5) (one_of g (qubit_of t)) (cond (nat_lt g 7) (two_of g (two_qubits_of t)) (three_of g (three_qubits_of t)))
+-- the qubits of a term, as many as a gate takes: one below 5, two below 7, else one and a pair
+abbrev pub operands_of : ℕ → Term → Option Operands
+operands_of g t = cond (nat_lt g 5) (one_of (qubit_of t)) (cond (nat_lt g 7) (two_of (two_qubits_of t)) (three_of (three_qubits_of t)))
 
 -- the constant of a bit
 abbrev pub leaf_bit : Bool → Leaf
@@ -103,11 +101,6 @@ split_of (Pair' p a q b) = Some pair_rule
 split_of (Split' x y p a q b) = None
 split_of (Choose' p a q b r c) = None
 
--- a rule at a cell, or a cell with none
-abbrev pub placed_at : Option SecondRule → ℕ → Place
-placed_at None at = Stuck at
-placed_at (Some rule) at = Works rule at
-
 abbrev leaf_prepares : Leaf → Option SecondRule
 leaf_prepares Zero = Some Prepare
 leaf_prepares One = Some Prepare
@@ -136,7 +129,7 @@ leaf_applied One t = None
 leaf_applied Measure t = where_some (qubit_of t) Read
 leaf_applied New t = prepares t
 leaf_applied Unit t = None
-leaf_applied (Gate g) t = where_some (pulse_of g t) Gates
+leaf_applied (Gate g) t = where_some (operands_of g t) Gates
 leaf_applied (Qubit h) t = None
 
 -- the rule of a value applied to a value

@@ -1,36 +1,107 @@
 //! Why a reading, a check or a step ends early.
 
-ghost use Rattle.std.specs.Prelude.{◌≡◌, Err};
-ghost use Rattle.second.specs.declared.halt.Halt.TheVariants.{Memory, Fault};
+ghost use Rattle.std.specs.Prelude.{◌≡◌, if◌then◌else◌, Ok, Err, alloc_error};
+ghost use Rattle.second.specs.Reasons.{number_of};
+ghost use Rattle.second.specs.declared.halt.Halt.TheVariants.{Memory, Fault as FaultHalt};
 
 use std::alloc::{AllocError, AllocFailed};
 
-/// No memory was left, or a fault of the given number at a line, a cell or a count of steps.
-#[derive(Drop)]
+/// What a text, cells or a step are refused for, each with its number.
+#[derive(Clone, Copy, PartialEq, Eq, Debug, Drop)]
+pub enum Reason {
+    Header = 11,
+    Line = 12,
+    Number = 13,
+    FullTable = 14,
+    End = 15,
+    TooManyCells = 20,
+    BadCell = 21,
+    NotWhole = 22,
+    ClaimOutside = 23,
+    TooDeep = 24,
+    NoBinder = 25,
+    WrongClaim = 26,
+    UsedTwice = 27,
+    Captures = 28,
+    NoRule = 36,
+    TooLong = 37,
+    NoPulses = 41,
+    Full = 42,
+    NotLive = 45,
+    GivenTwice = 46,
+}
+
+impl Reason {
+    /// The fault for this reason at a line, a cell or a count of steps.
+    pub fn at(self, place: usize) -> Fault
+        ensures { result ≡ record { reason = self; place = place } }
+    {
+        Fault {
+            reason: self,
+            place,
+        }
+    }
+
+    /// Refuses for this reason where a test tells to.
+    pub fn refuse_if(self, test: bool, place: usize) -> Result<(), Fault>
+        ensures { result ≡ (if test then Err (record { reason = self; place = place }) else Ok tt) }
+    {
+        if test { Err(self.at(place)) } else { Ok(()) }
+    }
+}
+
+impl From<Reason> for u16 {
+    ghost from_gives = { λ reason number. number ≡ number_of reason };
+
+    fn from(reason: Reason) -> u16 {
+        reason as u16
+    }
+}
+
+/// A refusal, at a line, a cell or a count of steps.
+#[derive(Clone, Copy, PartialEq, Eq, Debug, Drop)]
+pub struct Fault {
+    pub reason: Reason,
+    pub place: usize,
+}
+
+/// No memory was left, or a fault.
+#[derive(Debug, Drop)]
 pub enum Halt {
-    Memory,
-    Fault { number: u16, place: usize },
+    Memory(AllocError),
+    Fault(Fault),
+}
+
+impl Halt {
+    /// The fault, or that no memory was left.
+    pub fn into_fault(self) -> Result<Fault, AllocError> {
+        match self {
+            Halt::Memory(error) => Err(error),
+            Halt::Fault(fault) => Ok(fault),
+        }
+    }
+}
+
+impl From<Fault> for Halt {
+    ghost from_gives = { λ fault r. r ≡ FaultHalt fault };
+
+    fn from(fault: Fault) -> Halt {
+        Halt::Fault(fault)
+    }
 }
 
 impl From<AllocError> for Halt {
-    ghost from_gives = { λ _ r. r ≡ Memory };
+    ghost from_gives = { λ error r. r ≡ Memory error };
 
-    fn from(_e: AllocError) -> Halt {
-        Halt::Memory
+    fn from(error: AllocError) -> Halt {
+        Halt::Memory(error)
     }
 }
 
 impl<T: Drop> From<AllocFailed<T>> for Halt {
-    ghost from_gives = { λ _ r. r ≡ Memory };
+    ghost from_gives = { λ _ r. r ≡ Memory alloc_error };
 
-    fn from(_e: AllocFailed<T>) -> Halt {
-        Halt::Memory
+    fn from(error: AllocFailed<T>) -> Halt {
+        Halt::Memory(AllocError::from(error))
     }
-}
-
-/// The refusal of a call for a fault.
-pub fn fault<T>(number: u16, place: usize) -> Result<T, Halt>
-    ensures { result ≡ Err (Fault number place) }
-{
-    Err(Halt::Fault { number, place })
 }

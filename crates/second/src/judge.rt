@@ -1,271 +1,225 @@
 //! The typing rules on trees: the first fault in tree order, and which variables a tree uses.
 
-ghost use Rattle.std.specs.Prelude.{◌≡◌, ◌+◌, ◌<◌, ◌≤◌, length, IfOk, Ok, Err, vec_len, MatchResult};
-ghost use Rattle.second.specs.Kinds.{marks_of};
-ghost use Rattle.second.specs.declared.halt.Halt.TheVariants.{Fault};
+ghost use Rattle.std.specs.Prelude.{◌≡◌, ◌+◌, ◌<◌, ◌≤◌, length, Ok, Err, vec_len, MatchResult};
+ghost use Rattle.second.specs.declared.halt.Halt.TheVariants.{Fault as FaultHalt};
+ghost use Rattle.second.specs.declared.halt.Reason.TheVariants.{ClaimOutside, NoBinder, TooDeep};
 
-use crate::halt::{Halt, fault};
-use crate::kinds::{Kind, is_below, same};
-use crate::nodes::{Constant, Site, Tree};
+use crate::halt::{Fault, Halt, Reason};
+use crate::kinds::{Head, Kind, is_below, same};
+use crate::nodes::{Constant, Node, Site, Tree};
 use calculus::MOST_BINDERS;
 use std::alloc::{AllocError, Global};
+use std::collections::BTreeSet;
 
-// The type that a node claims.
-fn claimed(kinds: &[Kind], site: Site) -> Result<&Kind, Halt>
-    ensures { MatchResult result (λ _. site.claim < length kinds.now) (λ e. e ≡ Fault 23 site.cell) }
-{
-    match kinds.get(site.claim) {
-        Some(kind) => Ok(kind),
-        None => fault(23, site.cell),
+// How many qubits a gate of a number works on.
+fn arity(gate: u16) -> usize {
+    match gate {
+        0..=4 => 1,
+        5 | 6 => 2,
+        _ => 3,
     }
-}
-
-fn arrow(heap: Global, marks: usize, a: Kind, b: Kind) -> Result<Kind, AllocError>
-    ensures { IfOk result (λ k. marks_of k ≡ marks) }
-{
-    Ok(Kind::Arrow(marks, Box::new(heap, a)?, Box::new(heap, b)?))
-}
-
-// A qubit, or the pair of qubits, or of a qubit and a pair, that a gate works on.
-fn qubits(heap: Global, gate: u16) -> Result<Kind, AllocError>
-    ensures { IfOk result (λ k. marks_of k ≡ 0) }
-{
-    if gate < 5 {
-        return Ok(Kind::Qubit(0));
-    }
-    let first = Box::new(heap, Kind::Qubit(0))?;
-    let rest = if gate < 7 {
-        Kind::Qubit(0)
-    } else {
-        qubits(heap, 5)?
-    };
-    Ok(Kind::Pair(0, first, Box::new(heap, rest)?))
 }
 
 // Whether a constant's own type is a subtype of a claim; of the unit value's it is the unit under any marks.
 fn is_typed(heap: Global, leaf: Constant, claim: &Kind) -> Result<bool, AllocError> {
     let own = match leaf {
-        Constant::Zero | Constant::One => Kind::Bit(1),
-        Constant::New => arrow(heap, 1, Kind::Bit(0), Kind::Qubit(0))?,
-        Constant::Measure => arrow(heap, 1, Kind::Qubit(0), Kind::Bit(1))?,
-        Constant::Unit => Kind::Unit(1),
-        Constant::Gate(gate) => arrow(heap, 1, qubits(heap, gate)?, qubits(heap, gate)?)?,
+        Constant::Zero | Constant::One => Head::Bit.marked(1),
+        Constant::New => Kind::arrow(heap, 1, Head::Bit.marked(0), Head::Qubit.marked(0))?,
+        Constant::Measure => Kind::arrow(heap, 1, Head::Qubit.marked(0), Head::Bit.marked(1))?,
+        Constant::Unit => Head::Unit.marked(1),
+        Constant::Gate(gate) => {
+            let qubits = Kind::qubits(heap, arity(gate))?;
+            Kind::arrow(heap, 1, qubits.clone()?, qubits)?
+        }
         Constant::Qubit(_) => return Ok(false),
     };
     Ok(is_below(&own, claim))
 }
 
-// The levels of the variables in scope that may be used once only.
-fn linear(scope: &[Kind]) -> u64 {
-    let mut levels: u64 = 0;
-    for (level, kind) in scope.iter().enumerate() {
-        if level < 64 && kind.marks() == 0 {
-            levels |= 1u64 << level;
-        }
-    }
-    levels
-}
-
-// A variable: the level of its binder, alone.
-fn variable(site: Site, index: u16, kinds: &[Kind], scope: &[Kind]) -> Result<u64, Halt>
-    ensures { length scope.now ≤ index → result ≡ Err (Fault 25 site.cell) }
-{
-    let index = index as usize;
-    if index >= scope.len() {
-        return fault(25, site.cell);
-    }
-    let level = scope.len() - 1 - index;
-    if level >= 64 || !is_below(&scope[level], claimed(kinds, site)?) {
-        return fault(26, site.cell);
-    }
-    Ok(1u64 << level)
-}
-
-// A constant uses no variable.
-fn leaf_uses(heap: Global, site: Site, leaf: Constant, kinds: &[Kind]) -> Result<u64, Halt>
-    ensures { IfOk result (λ used. used ≡ 0) }
-{
-    if is_typed(heap, leaf, claimed(kinds, site)?)? {
-        Ok(0)
-    } else {
-        fault(26, site.cell)
-    }
-}
-
-// The two sets of levels together, where no variable of theirs that may be used once only is in both.
-fn apart(site: Site, left: u64, right: u64, scope: &[Kind]) -> Result<u64, Halt> {
-    if left & right & linear(scope) != 0 {
-        return fault(27, site.cell);
-    }
-    Ok(left | right)
-}
-
-// Tests a function's rule before its body, and enters its binder.
-fn enter_lambda(
-    heap: Global,
+// The two sets of levels together, where no level is in both.
+fn apart(
     site: Site,
-    body: Site,
-    kinds: &[Kind],
-    scope: &mut Vec<Kind>,
-) -> Result<usize, Halt>
-    ensures { 32 ≤ vec_len scope.old → result ≡ Err (Fault 24 site.cell) }
-{
-    if scope.len() >= MOST_BINDERS {
-        return fault(24, site.cell);
-    }
-    match claimed(kinds, site)? {
-        Kind::Arrow(marks, a, b) if same(claimed(kinds, body)?, b) => {
-            scope.push(a.marked(heap, 0)?)?;
-            Ok(*marks)
-        }
-        _ => fault(26, site.cell),
-    }
+    mut left: BTreeSet<usize>,
+    mut right: BTreeSet<usize>,
+) -> Result<BTreeSet<usize>, Halt> {
+    Reason::UsedTwice.refuse_if(!left.is_disjoint(&right), site.cell)?;
+    left.append(&mut right)?;
+    Ok(left)
 }
 
-// Tests a split's rule before its parts, and answers what its binders have.
-fn open_split(
-    heap: Global,
-    site: Site,
-    pair: Site,
-    body: Site,
-    kinds: &[Kind],
-    scope: &[Kind],
-) -> Result<(Kind, Kind), Halt>
-    ensures { 32 < length scope.now + 2 → result ≡ Err (Fault 24 site.cell) }
-{
-    if scope.len() + 2 > MOST_BINDERS {
-        return fault(24, site.cell);
-    }
-    match claimed(kinds, pair)? {
-        Kind::Pair(marks, a, b) if same(claimed(kinds, body)?, claimed(kinds, site)?) => Ok((
-            a.marked(heap, *marks)?,
-            b.marked(heap, *marks)?,
-        )),
-        _ => fault(26, site.cell),
-    }
-}
-
-// The rule of an application: its function claims exactly what its argument and it itself claim.
-fn test_apply(site: Site, function: Site, argument: Site, kinds: &[Kind]) -> Result<(), Halt> {
-    match claimed(kinds, function)? {
-        Kind::Arrow(0, a, b)
-            if same(claimed(kinds, argument)?, a) && same(claimed(kinds, site)?, b) => Ok(()),
-        _ => fault(26, site.cell),
-    }
-}
-
-// Whether a part of a marked pair claims the component under the pair's marks.
-fn is_component(
-    heap: Global,
-    claim: &Kind,
-    component: &Kind,
-    marks: usize,
-) -> Result<bool, AllocError> {
-    Ok(same(claim, &component.marked(heap, marks)?))
-}
-
-fn test_pair(
-    heap: Global,
-    site: Site,
-    left: Site,
-    right: Site,
-    kinds: &[Kind],
-) -> Result<(), Halt> {
-    let Kind::Pair(marks, a, b) = claimed(kinds, site)? else {
-        return fault(26, site.cell);
-    };
-    if is_component(heap, claimed(kinds, left)?, a, *marks)?
-        && is_component(heap, claimed(kinds, right)?, b, *marks)?
-    {
-        return Ok(());
-    }
-    fault(26, site.cell)
-}
-
-// The rule of an application or a pair, before its parts.
-fn test_both(heap: Global, tree: &Tree, kinds: &[Kind]) -> Result<(), Halt> {
-    match tree {
-        Tree::Apply(site, function, argument) => test_apply(
-            *site,
-            function.site(),
-            argument.site(),
-            kinds,
-        ),
-        Tree::Pair(site, left, right) => test_pair(heap, *site, left.site(), right.site(), kinds),
-        _ => Ok(()),
-    }
-}
-
-fn test_choose(
-    site: Site,
-    condition: Site,
-    one: Site,
-    zero: Site,
-    kinds: &[Kind],
-) -> Result<(), Halt> {
-    let claim = claimed(kinds, site)?;
-    match claimed(kinds, condition)? {
-        Kind::Bit(0) if same(claimed(kinds, one)?, claim) && same(claimed(kinds, zero)?, claim) =>
-            Ok(()),
-        _ => fault(26, site.cell),
-    }
-}
-
-// What a body's uses are outside its binders, the levels below.
-fn outside(used: u64, level: usize) -> u64 {
-    if level < 64 {
-        used & ((1u64 << level) - 1)
-    } else {
-        used
-    }
+// The levels of a body outside its binders, those below a level.
+fn outside(mut used: BTreeSet<usize>, level: usize) -> BTreeSet<usize> {
+    used.retain(|at| *at < level);
+    used
 }
 
 // A function with marks may use no outer variable that may be used once only.
-fn leave_lambda(site: Site, marks: usize, outer: u64, scope: &[Kind]) -> Result<u64, Halt>
+fn leave_lambda(site: Site, marks: usize, outer: BTreeSet<usize>) -> Result<BTreeSet<usize>, Fault>
     ensures { marks ≡ 0 → result ≡ Ok outer }
 {
-    if marks > 0 && outer & linear(scope) != 0 {
-        return fault(28, site.cell);
-    }
+    Reason::Captures.refuse_if(marks > 0 && !outer.is_empty(), site.cell)?;
     Ok(outer)
 }
 
-/// The levels of the variables that a tree uses, or the first fault in tree order.
-pub fn judge(
+/// The types that a program's nodes may claim, and those of the binders in scope, the outermost first.
+#[derive(Drop)]
+pub struct Judge<'k> {
     heap: Global,
-    tree: &Tree,
-    kinds: &[Kind],
-    scope: &mut Vec<Kind>,
-) -> Result<u64, Halt> {
-    let level = scope.len();
-    match tree {
-        Tree::Variable(site, index) => variable(*site, *index, kinds, scope),
-        Tree::Constant(site, leaf) => leaf_uses(heap, *site, *leaf, kinds),
-        Tree::Lambda(site, body) => {
-            let marks = enter_lambda(heap, *site, body.site(), kinds, scope)?;
-            let used = judge(heap, body, kinds, scope)?;
-            scope.truncate(level);
-            leave_lambda(*site, marks, outside(used, level), scope)
+    kinds: &'k [Kind],
+    scope: Vec<Kind>,
+}
+
+impl<'k> Judge<'k> {
+    /// No binder in scope.
+    pub fn new(heap: Global, kinds: &'k [Kind]) -> Judge<'k>
+        ensures { vec_len result.scope ≡ 0 }
+    {
+        Judge {
+            heap,
+            kinds,
+            scope: Vec::new(heap),
         }
-        Tree::Apply(site, left, right) | Tree::Pair(site, left, right) => {
-            test_both(heap, tree, kinds)?;
-            let first = judge(heap, left, kinds, scope)?;
-            apart(*site, first, judge(heap, right, kinds, scope)?, scope)
+    }
+
+    // The type that a node claims.
+    fn claimed(&self, site: Site) -> Result<&'k Kind, Fault>
+        ensures { MatchResult result (λ _. site.claim < length self.now.kinds.now) (λ e. e ≡ record { reason = ClaimOutside; place = site.cell }) }
+    {
+        self.kinds
+            .get(site.claim)
+            .ok_or(Reason::ClaimOutside.at(site.cell))
+    }
+
+    // A variable: the level of its binder, if it may be used once only.
+    fn variable(&self, site: Site, index: u16) -> Result<BTreeSet<usize>, Halt>
+        ensures { vec_len self.now.scope ≤ index → result ≡ Err (FaultHalt (record { reason = NoBinder; place = site.cell })) }
+    {
+        let level = self
+            .scope
+            .len()
+            .checked_sub(index as usize + 1)
+            .ok_or(Reason::NoBinder.at(site.cell))?;
+        let own = &self.scope[level];
+        Reason::WrongClaim.refuse_if(!is_below(own, self.claimed(site)?), site.cell)?;
+        let mut used = BTreeSet::new(self.heap);
+        if own.marks == 0 {
+            used.insert(level)?;
         }
-        Tree::Split(site, pair, body) => {
-            let (a, b) = open_split(heap, *site, pair.site(), body.site(), kinds, scope)?;
-            let first = judge(heap, pair, kinds, scope)?;
-            scope.push(a)?;
-            scope.push(b)?;
-            let used = judge(heap, body, kinds, scope)?;
-            scope.truncate(level);
-            apart(*site, first, outside(used, level), scope)
+        Ok(used)
+    }
+
+    // A constant, which uses no variable.
+    fn leaf(&self, site: Site, leaf: Constant) -> Result<BTreeSet<usize>, Halt> {
+        let is_right = is_typed(self.heap, leaf, self.claimed(site)?)?;
+        Reason::WrongClaim.refuse_if(!is_right, site.cell)?;
+        Ok(BTreeSet::new(self.heap))
+    }
+
+    // Tests a function's rule before its body, enters its binder, and answers how many marks lead its claim.
+    fn enter_lambda(&mut self, site: Site, body: Site) -> Result<usize, Halt>
+        ensures { 32 ≤ vec_len self.old.scope → result ≡ Err (FaultHalt (record { reason = TooDeep; place = site.cell })) }
+    {
+        Reason::TooDeep.refuse_if(self.scope.len() >= MOST_BINDERS, site.cell)?;
+        let claim = self.claimed(site)?;
+        match &claim.head {
+            Head::Arrow(a, b) if same(self.claimed(body)?, b) => {
+                self.scope.push(Kind::clone(a)?)?;
+                Ok(claim.marks)
+            }
+            _ => Err(Halt::Fault(Reason::WrongClaim.at(site.cell))),
         }
-        Tree::Choose(site, condition, one, zero) => {
-            test_choose(*site, condition.site(), one.site(), zero.site(), kinds)?;
-            let first = judge(heap, condition, kinds, scope)?;
-            let branches = judge(heap, one, kinds, scope)? | judge(heap, zero, kinds, scope)?;
-            apart(*site, first, branches, scope)
+    }
+
+    // Tests a split's rule before its parts, and answers what its binders have.
+    fn open_split(&self, site: Site, pair: Site, body: Site) -> Result<(Kind, Kind), Halt>
+        ensures { 32 < vec_len self.now.scope + 2 → result ≡ Err (FaultHalt (record { reason = TooDeep; place = site.cell })) }
+    {
+        Reason::TooDeep.refuse_if(self.scope.len() + 2 > MOST_BINDERS, site.cell)?;
+        let pair = self.claimed(pair)?;
+        match &pair.head {
+            Head::Pair(a, b) if same(self.claimed(body)?, self.claimed(site)?) => Ok((
+                a.marked(pair.marks)?,
+                b.marked(pair.marks)?,
+            )),
+            _ => Err(Halt::Fault(Reason::WrongClaim.at(site.cell))),
+        }
+    }
+
+    // The rule of an application: its function claims exactly what its argument and it itself claim.
+    fn test_apply(&self, site: Site, function: Site, argument: Site) -> Result<(), Fault> {
+        let function = self.claimed(function)?;
+        match &function.head {
+            Head::Arrow(a, b)
+                if function.marks == 0
+                    && same(self.claimed(argument)?, a)
+                    && same(self.claimed(site)?, b) => Ok(()),
+            _ => Err(Reason::WrongClaim.at(site.cell)),
+        }
+    }
+
+    // The rule of a pair: its parts claim the components under the pair's marks.
+    fn test_pair(&self, site: Site, left: Site, right: Site) -> Result<(), Halt> {
+        let claim = self.claimed(site)?;
+        match &claim.head {
+            Head::Pair(a, b)
+                if same(self.claimed(left)?, &a.marked(claim.marks)?)
+                    && same(self.claimed(right)?, &b.marked(claim.marks)?) => Ok(()),
+            _ => Err(Halt::Fault(Reason::WrongClaim.at(site.cell))),
+        }
+    }
+
+    // The rule of a condition: it claims exactly a bit, and both branches what the node claims.
+    fn test_choose(&self, site: Site, condition: Site, one: Site, zero: Site) -> Result<(), Fault> {
+        let claim = self.claimed(site)?;
+        let condition = self.claimed(condition)?;
+        match condition.head {
+            Head::Bit
+                if condition.marks == 0
+                    && same(self.claimed(one)?, claim)
+                    && same(self.claimed(zero)?, claim) => Ok(()),
+            _ => Err(Reason::WrongClaim.at(site.cell)),
+        }
+    }
+
+    /// The levels of the variables that a tree uses and that may be used once only, or the first fault in tree order.
+    pub fn judge(&mut self, tree: &Tree) -> Result<BTreeSet<usize>, Halt> {
+        let site = tree.site;
+        let level = self.scope.len();
+        match &tree.node {
+            Node::Variable(index) => self.variable(site, *index),
+            Node::Constant(leaf) => self.leaf(site, *leaf),
+            Node::Lambda(body) => {
+                let marks = self.enter_lambda(site, body.site)?;
+                let used = self.judge(body)?;
+                self.scope.truncate(level);
+                Ok(leave_lambda(site, marks, outside(used, level))?)
+            }
+            Node::Apply(function, argument) => {
+                self.test_apply(site, function.site, argument.site)?;
+                let first = self.judge(function)?;
+                apart(site, first, self.judge(argument)?)
+            }
+            Node::Pair(left, right) => {
+                self.test_pair(site, left.site, right.site)?;
+                let first = self.judge(left)?;
+                apart(site, first, self.judge(right)?)
+            }
+            Node::Split(pair, body) => {
+                let (a, b) = self.open_split(site, pair.site, body.site)?;
+                let first = self.judge(pair)?;
+                self.scope.push(a)?;
+                self.scope.push(b)?;
+                let used = self.judge(body)?;
+                self.scope.truncate(level);
+                apart(site, first, outside(used, level))
+            }
+            Node::Choose(condition, one, zero) => {
+                self.test_choose(site, condition.site, one.site, zero.site)?;
+                let first = self.judge(condition)?;
+                let mut branches = self.judge(one)?;
+                branches.append(&mut self.judge(zero)?)?;
+                apart(site, first, branches)
+            }
         }
     }
 }

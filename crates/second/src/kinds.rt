@@ -1,51 +1,71 @@
 //! Types as trees: each node counts the marks that lead it, so that stripping them is no work.
 
 ghost use Rattle.std.specs.Prelude.{◌≡◌, ◌+◌, ◌-◌, ◌^◌, ◌<◌, min, false, IfOk};
-ghost use Rattle.second.specs.Kinds.{marks_of, same_kind};
+ghost use Rattle.second.specs.Kinds.{same_kind};
 
 use calculus::TypeCell;
 use std::alloc::{AllocError, Global};
 
-/// A type, by its head; the number is how many marks (`!`) lead it.
-#[derive(Drop)]
-pub enum Kind {
-    Bit(usize),
-    Qubit(usize),
-    Unit(usize),
-    Arrow(usize, Box<Kind>, Box<Kind>),
-    Pair(usize, Box<Kind>, Box<Kind>),
+/// A type: how many marks (`!`) lead it, and the head that they lead. From one mark on, its values may be used any number
+/// of times.
+#[cycle(kind)]
+#[derive(Clone, Drop)]
+pub struct Kind {
+    pub marks: usize,
+    pub head: Head,
+}
+
+/// What a type is under its marks.
+#[cycle(kind)]
+#[derive(Clone, Drop)]
+pub enum Head {
+    Bit,
+    Qubit,
+    Unit,
+    Arrow(Box<Kind>, Box<Kind>),
+    Pair(Box<Kind>, Box<Kind>),
+}
+
+impl Head {
+    /// The type of this head under so many marks.
+    pub fn marked(self, marks: usize) -> Kind
+        ensures { result.marks ≡ marks }
+    {
+        Kind { marks, head: self }
+    }
 }
 
 impl Kind {
-    /// How many marks lead the type: from one on, its values may be used any number of times.
-    pub fn marks(&self) -> usize
-        ensures { result ≡ marks_of self.now }
+    /// The type of functions from one type to another, under so many marks.
+    pub fn arrow(heap: Global, marks: usize, from: Kind, to: Kind) -> Result<Kind, AllocError>
+        ensures { IfOk result (λ k. k.marks ≡ marks) }
     {
-        match self {
-            Kind::Bit(n) | Kind::Qubit(n) | Kind::Unit(n) => *n,
-            Kind::Arrow(n, _, _) | Kind::Pair(n, _, _) => *n,
+        Ok(Head::Arrow(Box::new(heap, from)?, Box::new(heap, to)?).marked(marks))
+    }
+
+    /// The type of pairs of two types, under so many marks.
+    pub fn pair(heap: Global, marks: usize, left: Kind, right: Kind) -> Result<Kind, AllocError>
+        ensures { IfOk result (λ k. k.marks ≡ marks) }
+    {
+        Ok(Head::Pair(Box::new(heap, left)?, Box::new(heap, right)?).marked(marks))
+    }
+
+    /// The type of so many qubits: of one, or of a pair of one and the others.
+    pub fn qubits(heap: Global, count: usize) -> Result<Kind, AllocError>
+        ensures { IfOk result (λ k. k.marks ≡ 0) }
+    {
+        let mut all = Head::Qubit.marked(0);
+        for _ in 1..count {
+            all = Kind::pair(heap, 0, Head::Qubit.marked(0), all)?;
         }
+        Ok(all)
     }
 
     /// A copy of the type with more marks in front.
-    pub fn marked(&self, heap: Global, more: usize) -> Result<Kind, AllocError>
-        ensures { IfOk result (λ k. marks_of k ≡ min (marks_of self.now + more) (2 ^ 64 - 1)) }
+    pub fn marked(&self, more: usize) -> Result<Kind, AllocError>
+        ensures { IfOk result (λ k. k.marks ≡ min (self.now.marks + more) (2 ^ 64 - 1)) }
     {
-        match self {
-            Kind::Bit(n) => Ok(Kind::Bit(n.saturating_add(more))),
-            Kind::Qubit(n) => Ok(Kind::Qubit(n.saturating_add(more))),
-            Kind::Unit(n) => Ok(Kind::Unit(n.saturating_add(more))),
-            Kind::Arrow(n, a, b) => {
-                let a = Box::new(heap, a.marked(heap, 0)?)?;
-                let b = Box::new(heap, b.marked(heap, 0)?)?;
-                Ok(Kind::Arrow(n.saturating_add(more), a, b))
-            }
-            Kind::Pair(n, a, b) => {
-                let a = Box::new(heap, a.marked(heap, 0)?)?;
-                let b = Box::new(heap, b.marked(heap, 0)?)?;
-                Ok(Kind::Pair(n.saturating_add(more), a, b))
-            }
-        }
+        Ok(self.head.clone()?.marked(self.marks.saturating_add(more)))
     }
 }
 
@@ -56,19 +76,19 @@ fn add(cells: &mut Vec<TypeCell>, kind: char) -> Result<(), AllocError> {
 
 /// Writes a type's cells behind others.
 pub fn write_kind(kind: &Kind, cells: &mut Vec<TypeCell>) -> Result<(), AllocError> {
-    for _ in 0..kind.marks() {
+    for _ in 0..kind.marks {
         add(cells, '!')?;
     }
-    match kind {
-        Kind::Bit(_) => add(cells, 'b'),
-        Kind::Qubit(_) => add(cells, 'q'),
-        Kind::Unit(_) => add(cells, 'u'),
-        Kind::Arrow(_, a, b) => {
+    match &kind.head {
+        Head::Bit => add(cells, 'b'),
+        Head::Qubit => add(cells, 'q'),
+        Head::Unit => add(cells, 'u'),
+        Head::Arrow(a, b) => {
             add(cells, '>')?;
             write_kind(a, cells)?;
             write_kind(b, cells)
         }
-        Kind::Pair(_, a, b) => {
+        Head::Pair(a, b) => {
             add(cells, '*')?;
             write_kind(a, cells)?;
             write_kind(b, cells)
@@ -80,29 +100,28 @@ pub fn write_kind(kind: &Kind, cells: &mut Vec<TypeCell>) -> Result<(), AllocErr
 pub fn same(a: &Kind, b: &Kind) -> bool
     ensures { result ≡ same_kind a.now b.now }
 {
-    match (a, b) {
-        (Kind::Bit(n), Kind::Bit(m)) => *n == *m,
-        (Kind::Qubit(n), Kind::Qubit(m)) => *n == *m,
-        (Kind::Unit(n), Kind::Unit(m)) => *n == *m,
-        (Kind::Arrow(n, a, b), Kind::Arrow(m, c, d)) => *n == *m && same(a, c) && same(b, d),
-        (Kind::Pair(n, a, b), Kind::Pair(m, c, d)) => *n == *m && same(a, c) && same(b, d),
+    if a.marks != b.marks {
+        return false;
+    }
+    match (&a.head, &b.head) {
+        (Head::Bit, Head::Bit) | (Head::Qubit, Head::Qubit) | (Head::Unit, Head::Unit) => true,
+        (Head::Arrow(a, b), Head::Arrow(c, d)) | (Head::Pair(a, b), Head::Pair(c, d)) => same(a, c)
+            && same(b, d),
         _ => false,
     }
 }
 
 /// Whether the first type is a subtype of the second.
 pub fn is_below(a: &Kind, b: &Kind) -> bool
-    ensures { 0 < marks_of b.now → marks_of a.now ≡ 0 → result ≡ false }
+    ensures { 0 < b.now.marks → a.now.marks ≡ 0 → result ≡ false }
 {
-    if b.marks() > 0 && a.marks() == 0 {
+    if b.marks > 0 && a.marks == 0 {
         return false;
     }
-    match (a, b) {
-        (Kind::Bit(_), Kind::Bit(_)) => true,
-        (Kind::Qubit(_), Kind::Qubit(_)) => true,
-        (Kind::Unit(_), Kind::Unit(_)) => true,
-        (Kind::Arrow(_, a, b), Kind::Arrow(_, c, d)) => is_below(c, a) && is_below(b, d),
-        (Kind::Pair(_, a, b), Kind::Pair(_, c, d)) => is_below(a, c) && is_below(b, d),
+    match (&a.head, &b.head) {
+        (Head::Bit, Head::Bit) | (Head::Qubit, Head::Qubit) | (Head::Unit, Head::Unit) => true,
+        (Head::Arrow(a, b), Head::Arrow(c, d)) => is_below(c, a) && is_below(b, d),
+        (Head::Pair(a, b), Head::Pair(c, d)) => is_below(a, c) && is_below(b, d),
         _ => false,
     }
 }

@@ -15,6 +15,6 @@ mod tape;
 mod terms;
 mod texts;
 
-pub use kinds::{Kind, is_below, same, write_kind};
-pub use seeks::{Place, SecondRule};
+pub use kinds::{Head, Kind, is_below, same, write_kind};
+pub use seeks::SecondRule;
 pub use shots::{second_check, second_find, second_shot};

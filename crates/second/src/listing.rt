@@ -2,11 +2,65 @@
 
 ghost use Rattle.std.specs.Prelude.{◌≡◌, ◌≤◌, length};
 
+use crate::halt::{Fault, Reason};
 use crate::kinds::{Kind, write_kind};
 use crate::nodes::Constant;
-use crate::tape::Pulse;
+use crate::tape::{Operands, Pulse};
 use crate::terms::Term;
 use std::alloc::{AllocError, Global};
+use std::fmt;
+
+/// How a run ends: at a value, with the budget spent, or by a refused step.
+#[derive(Clone, Copy, Drop)]
+pub enum Ending {
+    Value,
+    Budget,
+    Refused(Reason),
+}
+
+impl fmt::Display for Ending {
+    fn fmt<W: fmt::Write>(&self, f: &mut fmt::Formatter<W>) -> fmt::Result {
+        f.write_str(match self {
+            Ending::Value => "0",
+            Ending::Budget => "1",
+            Ending::Refused(_) => "2",
+        })
+    }
+}
+
+impl fmt::Display for Constant {
+    fn fmt<W: fmt::Write>(&self, f: &mut fmt::Formatter<W>) -> fmt::Result {
+        match self {
+            Constant::Zero => write!(f, "0 0"),
+            Constant::One => write!(f, "1 0"),
+            Constant::Measure => write!(f, "m 0"),
+            Constant::New => write!(f, "n 0"),
+            Constant::Unit => write!(f, "s 0"),
+            Constant::Gate(gate) => write!(f, "g {gate}"),
+            Constant::Qubit(handle) => write!(f, "q {handle}"),
+        }
+    }
+}
+
+impl fmt::Display for Operands {
+    fn fmt<W: fmt::Write>(&self, f: &mut fmt::Formatter<W>) -> fmt::Result {
+        match self {
+            Operands::One(a) => write!(f, "{a} - -"),
+            Operands::Two(a, b) => write!(f, "{a} {b} -"),
+            Operands::Three(a, b, c) => write!(f, "{a} {b} {c}"),
+        }
+    }
+}
+
+impl fmt::Display for Pulse {
+    fn fmt<W: fmt::Write>(&self, f: &mut fmt::Formatter<W>) -> fmt::Result {
+        match self {
+            Pulse::Prepare(handle, bit) => write!(f, "P {handle} {} - -", u8::from(*bit)),
+            Pulse::Gate(gate, on) => write!(f, "G {gate} {on}"),
+            Pulse::Read(handle, outcome) => write!(f, "R {handle} {} - -", u8::from(*outcome)),
+        }
+    }
+}
 
 /// The lines so far.
 #[derive(Drop)]
@@ -15,16 +69,15 @@ pub struct Listing {
     text: String,
 }
 
-// How many binders lie between a variable and the nearest binder of its name.
-fn distance(scope: &[u32], x: u32) -> usize
+// How many binders lie between a variable and its binder, the nearest of its name, or how many there are.
+fn distance(scope: &[u32], x: Option<u32>) -> usize
     ensures { result ≤ length scope.now }
 {
-    for (i, y) in scope.iter().rev().enumerate() {
-        if *y == x {
-            return i;
-        }
-    }
-    scope.len()
+    scope
+        .iter()
+        .rev()
+        .position(|y| Some(*y) == x)
+        .unwrap_or(scope.len())
 }
 
 impl Listing {
@@ -43,21 +96,14 @@ impl Listing {
         self.text
     }
 
-    fn line(&mut self, line: &str) -> Result<(), AllocError> {
-        self.text.push_str(line)?;
-        self.text.push('\n')
-    }
-
-    /// The steps made, and how the run stopped.
-    pub fn head(&mut self, steps: usize, stop: u8) -> Result<(), AllocError> {
-        let line = format!(in self.heap; "S {steps} {stop}")?;
-        self.line(line.as_str())
+    /// The steps made, and how the run ended.
+    pub fn head(&mut self, steps: usize, ending: Ending) -> Result<(), AllocError> {
+        writeln!(self.text, "S {steps} {ending}")
     }
 
     /// The number of a refusal, and its place.
-    pub fn refusal(&mut self, number: u16, place: usize) -> Result<(), AllocError> {
-        let line = format!(in self.heap; "X {number} {place}")?;
-        self.line(line.as_str())
+    pub fn refusal(&mut self, fault: Fault) -> Result<(), AllocError> {
+        writeln!(self.text, "X {} {}", u16::from(fault.reason), fault.place)
     }
 
     /// The cells of a type.
@@ -65,91 +111,54 @@ impl Listing {
         let mut cells = Vec::new(self.heap);
         write_kind(kind, &mut cells)?;
         for cell in cells.iter() {
-            let kind = cell.kind;
-            let line = format!(in self.heap; "T {kind}")?;
-            self.line(line.as_str())?;
+            writeln!(self.text, "T {}", cell.kind)?;
         }
         Ok(())
     }
 
-    fn numbered(&mut self, op: char, argument: usize) -> Result<(), AllocError> {
-        let line = format!(in self.heap; "M {op} {argument}")?;
-        self.line(line.as_str())
-    }
-
-    fn constant(&mut self, leaf: Constant) -> Result<(), AllocError> {
-        match leaf {
-            Constant::Zero => self.line("M 0 0"),
-            Constant::One => self.line("M 1 0"),
-            Constant::Measure => self.line("M m 0"),
-            Constant::New => self.line("M n 0"),
-            Constant::Unit => self.line("M s 0"),
-            Constant::Gate(gate) => self.numbered('g', gate as usize),
-            Constant::Qubit(handle) => self.numbered('q', handle as usize),
-        }
-    }
-
     /// The cells of a term below the binders in scope.
     pub fn value(&mut self, term: &Term, scope: &mut Vec<u32>) -> Result<(), AllocError> {
+        let level = scope.len();
         match term {
-            Term::Variable(x) => self.numbered('v', distance(scope, *x)),
-            Term::Constant(leaf) => self.constant(*leaf),
+            Term::Variable(x) => writeln!(self.text, "M v {}", distance(scope, *x))?,
+            Term::Constant(leaf) => writeln!(self.text, "M {leaf}")?,
             Term::Lambda(x, body) => {
-                self.line("M l 0")?;
+                writeln!(self.text, "M l 0")?;
                 scope.push(*x)?;
                 self.value(body, scope)?;
-                let _ = scope.pop();
-                Ok(())
             }
             Term::Apply(a, b) => {
-                self.line("M a 0")?;
+                writeln!(self.text, "M a 0")?;
                 self.value(a, scope)?;
-                self.value(b, scope)
+                self.value(b, scope)?;
             }
             Term::Pair(a, b) => {
-                self.line("M p 0")?;
+                writeln!(self.text, "M p 0")?;
                 self.value(a, scope)?;
-                self.value(b, scope)
+                self.value(b, scope)?;
             }
             Term::Split(x, y, pair, body) => {
-                self.line("M d 0")?;
+                writeln!(self.text, "M d 0")?;
                 self.value(pair, scope)?;
                 scope.push(*x)?;
                 scope.push(*y)?;
                 self.value(body, scope)?;
-                let _ = (scope.pop(), scope.pop());
-                Ok(())
             }
             Term::Choose(c, one, zero) => {
-                self.line("M i 0")?;
+                writeln!(self.text, "M i 0")?;
                 self.value(c, scope)?;
                 self.value(one, scope)?;
-                self.value(zero, scope)
+                self.value(zero, scope)?;
             }
         }
-    }
-
-    fn pulse(&mut self, at: usize, pulse: Pulse) -> Result<(), AllocError> {
-        let line = match pulse {
-            Pulse::Prepare(handle, bit) => {
-                let bit = bit as u8;
-                format!(in self.heap; "J {at} P {handle} {bit} - -")?
-            }
-            Pulse::Read(handle, outcome) => {
-                let outcome = outcome as u8;
-                format!(in self.heap; "J {at} R {handle} {outcome} - -")?
-            }
-            Pulse::One(gate, a) => format!(in self.heap; "J {at} G {gate} {a} - -")?,
-            Pulse::Two(gate, a, b) => format!(in self.heap; "J {at} G {gate} {a} {b} -")?,
-            Pulse::Three(gate, a, b, c) => format!(in self.heap; "J {at} G {gate} {a} {b} {c}")?,
-        };
-        self.line(line.as_str())
+        scope.truncate(level);
+        Ok(())
     }
 
     /// The pulses, in order.
     pub fn journal(&mut self, pulses: &[Pulse]) -> Result<(), AllocError> {
         for (at, pulse) in pulses.iter().enumerate() {
-            self.pulse(at, *pulse)?;
+            writeln!(self.text, "J {at} {pulse}")?;
         }
         Ok(())
     }

@@ -1,10 +1,10 @@
 //! Cells as boxed trees: types by place, and the term.
 
 ghost use Rattle.std.specs.Prelude.{◌≡◌};
-ghost use Rattle.second.specs.Trees.{site_of, constant_of};
+ghost use Rattle.second.specs.Trees.{constant_of};
 
-use crate::halt::{Halt, fault};
-use crate::kinds::Kind;
+use crate::halt::{Fault, Halt, Reason};
+use crate::kinds::{Head, Kind};
 use calculus::{TermCell, TypeCell};
 use std::alloc::Global;
 
@@ -27,63 +27,51 @@ pub struct Site {
     pub claim: usize,
 }
 
-/// A stored term, with variables counted outward from the nearest binder.
+/// A stored term: the site of its root, and what stands there.
+#[cycle(tree)]
 #[derive(Drop)]
-pub enum Tree {
-    Variable(Site, u16),
-    Constant(Site, Constant),
-    Lambda(Site, Box<Tree>),
-    Apply(Site, Box<Tree>, Box<Tree>),
-    Pair(Site, Box<Tree>, Box<Tree>),
-    Split(Site, Box<Tree>, Box<Tree>),
-    Choose(Site, Box<Tree>, Box<Tree>, Box<Tree>),
+pub struct Tree {
+    pub site: Site,
+    pub node: Node,
 }
 
-impl Tree {
-    /// The root's site.
-    pub fn site(&self) -> Site
-        ensures { result ≡ site_of self.now }
-    {
-        match self {
-            Tree::Variable(site, _) | Tree::Constant(site, _) | Tree::Lambda(site, _) => *site,
-            Tree::Apply(site, _, _) | Tree::Pair(site, _, _) | Tree::Split(site, _, _) => *site,
-            Tree::Choose(site, _, _, _) => *site,
-        }
-    }
+/// A variable, counted outward from the nearest binder, a constant, or an op with its parts.
+#[cycle(tree)]
+#[derive(Drop)]
+pub enum Node {
+    Variable(u16),
+    Constant(Constant),
+    Lambda(Box<Tree>),
+    Apply(Box<Tree>, Box<Tree>),
+    Pair(Box<Tree>, Box<Tree>),
+    Split(Box<Tree>, Box<Tree>),
+    Choose(Box<Tree>, Box<Tree>, Box<Tree>),
 }
 
-// The type that starts at the last place but those on the stack, whose top is the nearest.
-fn kind_of(heap: Global, kind: char, stack: &mut Vec<Kind>) -> Result<Kind, Halt> {
-    match kind {
-        'b' => Ok(Kind::Bit(0)),
-        'q' => Ok(Kind::Qubit(0)),
-        'u' => Ok(Kind::Unit(0)),
-        '!' => match stack.pop() {
-            Some(inner) => Ok(inner.marked(heap, 1)?),
-            None => fault(22, 0),
-        },
-        _ => {
-            let (Some(a), Some(b)) = (stack.pop(), stack.pop()) else {
-                return fault(22, 0);
-            };
-            let a = Box::new(heap, a)?;
-            let b = Box::new(heap, b)?;
-            if kind == '>' {
-                Ok(Kind::Arrow(0, a, b))
-            } else {
-                Ok(Kind::Pair(0, a, b))
-            }
-        }
-    }
+// The tree that starts at the last place but those on the stack, whose top is the nearest.
+fn pop<T>(stack: &mut Vec<T>) -> Result<T, Fault> {
+    stack.pop().ok_or(Reason::NotWhole.at(0))
+}
+
+// The type of one cell, whose parts are on top of the stack, the first uppermost.
+fn kind_of(heap: Global, letter: char, stack: &mut Vec<Kind>) -> Result<Kind, Halt> {
+    Ok(match letter {
+        'b' => Head::Bit.marked(0),
+        'q' => Head::Qubit.marked(0),
+        'u' => Head::Unit.marked(0),
+        '!' => pop(stack)?.marked(1)?,
+        '>' => Kind::arrow(heap, 0, pop(stack)?, pop(stack)?)?,
+        _ => Kind::pair(heap, 0, pop(stack)?, pop(stack)?)?,
+    })
 }
 
 /// The type that starts at each place of a table of whole types.
 pub fn grow_kinds(heap: Global, types: &[TypeCell]) -> Result<Vec<Kind>, Halt> {
     let mut all = Vec::new(heap);
     let mut stack = Vec::new(heap);
-    for i in (0..types.len()).rev() {
-        let kind = kind_of(heap, types[i].kind, &mut stack)?;
-        all.push(kind.marked(heap, 0)?)?;
+    for cell in types.iter().rev() {
+        let kind = kind_of(heap, cell.kind, &mut stack)?;
+        all.push(kind.clone()?)?;
         stack.push(kind)?;
     }
     all.reverse();
@@ -91,10 +79,7 @@ pub fn grow_kinds(heap: Global, types: &[TypeCell]) -> Result<Vec<Kind>, Halt> {
 }
 
 fn part(heap: Global, stack: &mut Vec<Tree>) -> Result<Box<Tree>, Halt> {
-    match stack.pop() {
-        Some(tree) => Ok(Box::new(heap, tree)?),
-        None => fault(22, 0),
-    }
+    Ok(Box::new(heap, pop(stack)?)?)
 }
 
 fn bare(op: char, argument: u16) -> Option<Constant>
@@ -113,39 +98,29 @@ fn bare(op: char, argument: u16) -> Option<Constant>
 }
 
 // The tree of one cell, whose parts are on top of the stack, the first uppermost.
-fn tree_of(heap: Global, cell: &TermCell, at: usize, stack: &mut Vec<Tree>) -> Result<Tree, Halt> {
+fn tree_of(heap: Global, cell: TermCell, at: usize, stack: &mut Vec<Tree>) -> Result<Tree, Halt> {
+    let node = match cell.op {
+        'v' => Node::Variable(cell.argument),
+        'l' => Node::Lambda(part(heap, stack)?),
+        'a' => Node::Apply(part(heap, stack)?, part(heap, stack)?),
+        'p' => Node::Pair(part(heap, stack)?, part(heap, stack)?),
+        'd' => Node::Split(part(heap, stack)?, part(heap, stack)?),
+        'i' => Node::Choose(part(heap, stack)?, part(heap, stack)?, part(heap, stack)?),
+        op => Node::Constant(bare(op, cell.argument).ok_or(Reason::BadCell.at(at))?),
+    };
     let site = Site {
         cell: at,
         claim: cell.claim as usize,
     };
-    match cell.op {
-        'v' => Ok(Tree::Variable(site, cell.argument)),
-        'l' => Ok(Tree::Lambda(site, part(heap, stack)?)),
-        'a' => Ok(Tree::Apply(site, part(heap, stack)?, part(heap, stack)?)),
-        'p' => Ok(Tree::Pair(site, part(heap, stack)?, part(heap, stack)?)),
-        'd' => Ok(Tree::Split(site, part(heap, stack)?, part(heap, stack)?)),
-        'i' => Ok(Tree::Choose(
-            site,
-            part(heap, stack)?,
-            part(heap, stack)?,
-            part(heap, stack)?,
-        )),
-        op => match bare(op, cell.argument) {
-            Some(leaf) => Ok(Tree::Constant(site, leaf)),
-            None => fault(21, at),
-        },
-    }
+    Ok(Tree { site, node })
 }
 
 /// The tree of cells that are exactly one term.
 pub fn grow(heap: Global, cells: &[TermCell]) -> Result<Tree, Halt> {
     let mut stack = Vec::new(heap);
-    for i in (0..cells.len()).rev() {
-        let tree = tree_of(heap, &cells[i], i, &mut stack)?;
+    for (at, cell) in cells.iter().enumerate().rev() {
+        let tree = tree_of(heap, *cell, at, &mut stack)?;
         stack.push(tree)?;
     }
-    match stack.pop() {
-        Some(tree) => Ok(tree),
-        None => fault(22, 0),
-    }
+    Ok(pop(&mut stack)?)
 }

@@ -1,10 +1,10 @@
 //! Where the next step of a running term is, by cell.
 
 ghost use Rattle.std.specs.Prelude.{◌≡◌};
-ghost use Rattle.second.specs.Terms.{applied_of, branch_of, split_of, placed_at};
+ghost use Rattle.second.specs.Terms.{applied_of, branch_of, split_of};
 
 use crate::nodes::Constant;
-use crate::steps::gate_pulse;
+use crate::steps::operands;
 use crate::terms::{Term, size};
 
 /// The rules, by what they apply to.
@@ -19,23 +19,6 @@ pub enum SecondRule {
     Gates,
 }
 
-/// A value, a rule with the cell that it applies at, or the cell that has no rule.
-#[derive(Clone, Copy, PartialEq, Debug, Drop)]
-pub enum Place {
-    Rests,
-    Works(SecondRule, usize),
-    Stuck(usize),
-}
-
-fn placed(rule: Option<SecondRule>, at: usize) -> Place
-    ensures { result ≡ placed_at rule at }
-{
-    match rule {
-        Some(rule) => Place::Works(rule, at),
-        None => Place::Stuck(at),
-    }
-}
-
 // The rule of a value applied to a value.
 fn apply_rule(function: &Term, value: &Term) -> Option<SecondRule>
     ensures { result ≡ applied_of function.now value.now }
@@ -48,10 +31,9 @@ fn apply_rule(function: &Term, value: &Term) -> Option<SecondRule>
         (Term::Constant(Constant::Measure), Term::Constant(Constant::Qubit(_))) => Some(
             SecondRule::Read,
         ),
-        (Term::Constant(Constant::Gate(gate)), on) => match gate_pulse(*gate, on) {
-            Some(_) => Some(SecondRule::Gates),
-            None => None,
-        },
+        (Term::Constant(Constant::Gate(gate)), on) => operands(*gate, on).map(
+            |_| SecondRule::Gates,
+        ),
         _ => None,
     }
 }
@@ -76,32 +58,23 @@ fn split_rule(pair: &Term) -> Option<SecondRule>
     }
 }
 
-/// Where the next step is in a term whose root is at a cell.
-pub fn seek(term: &Term, at: usize) -> Place {
+/// What a term whose root is at a cell waits for: nothing where it is a value, and else the cell that is due, with the
+/// rule that applies there, if one does.
+pub fn seek(term: &Term, at: usize) -> Option<(usize, Option<SecondRule>)> {
     let first = at.saturating_add(1);
     match term {
-        Term::Variable(_) | Term::Constant(_) | Term::Lambda(_, _) => Place::Rests,
-        Term::Apply(function, argument) => match seek(
-            argument,
-            first.saturating_add(size(function)),
-        ) {
-            Place::Rests => match seek(function, first) {
-                Place::Rests => placed(apply_rule(function, argument), at),
-                found => found,
-            },
-            found => found,
-        },
-        Term::Pair(left, right) => match seek(left, first) {
-            Place::Rests => seek(right, first.saturating_add(size(left))),
-            found => found,
-        },
-        Term::Split(_, _, pair, _) => match seek(pair, first) {
-            Place::Rests => placed(split_rule(pair), at),
-            found => found,
-        },
-        Term::Choose(condition, _, _) => match seek(condition, first) {
-            Place::Rests => placed(choose_rule(condition), at),
-            found => found,
-        },
+        Term::Variable(_) | Term::Constant(_) | Term::Lambda(_, _) => None,
+        Term::Apply(function, argument) => seek(argument, first.saturating_add(size(function)))
+            .or(seek(function, first))
+            .or_else(|| Some((at, apply_rule(function, argument)))),
+        Term::Pair(left, right) => seek(left, first).or(seek(
+            right,
+            first.saturating_add(size(left)),
+        )),
+        Term::Split(_, _, pair, _) => seek(pair, first).or_else(|| Some((at, split_rule(pair)))),
+        Term::Choose(condition, _, _) => seek(condition, first).or_else(|| Some((
+            at,
+            choose_rule(condition),
+        ))),
     }
 }

@@ -1,18 +1,19 @@
 //! A whole shot: a stored program's text, read, checked, run and listed.
 
-use crate::halt::{Halt, fault};
-use crate::judge::judge;
+use crate::halt::{Fault, Halt, Reason};
+use crate::judge::Judge;
 use crate::kinds::Kind;
-use crate::listing::Listing;
+use crate::listing::{Ending, Listing};
 use crate::nodes::{Tree, grow, grow_kinds};
-use crate::seeks::{Place, seek};
+use crate::seeks::{SecondRule, seek};
 use crate::steps::advance;
 use crate::tables::{test_running, test_tables};
 use crate::tape::Tape;
-use crate::terms::{Names, Term, handles, name, size};
+use crate::terms::{Names, Term, holds, name, size};
 use crate::texts::read;
 use calculus::{MOST_RUNNING_CELLS, TermCell, TypeCell};
 use std::alloc::{AllocError, Global};
+use std::mem;
 
 /// How many steps a shot makes at most.
 pub const BUDGET: usize = 1000;
@@ -28,22 +29,14 @@ fn accept(heap: Global, types: &[TypeCell], terms: &[TermCell]) -> Result<Progra
     test_tables(types, terms)?;
     let kinds = grow_kinds(heap, types)?;
     let tree = grow(heap, terms)?;
-    let mut scope = Vec::new(heap);
-    judge(heap, &tree, &kinds, &mut scope)?;
+    Judge::new(heap, &kinds).judge(&tree)?;
     Ok(Program { tree, kinds })
 }
 
-fn named(heap: Global, tree: &Tree) -> Result<Term, AllocError> {
+fn named(heap: Global, tree: &Tree) -> Result<Box<Term>, AllocError> {
     let mut scope = Vec::new(heap);
     let mut names = Names::new();
     name(heap, tree, &mut scope, &mut names)
-}
-
-// How a run ends: at a value, with the budget spent, or by a refused step.
-enum Ending {
-    Value,
-    Budget,
-    Refused(u16),
 }
 
 // A program that runs: its register, its term and the steps made.
@@ -56,11 +49,9 @@ struct Shot {
 
 impl Shot {
     fn new(heap: Global, tree: &Tree) -> Result<Shot, AllocError> {
-        let tape = Tape::new(heap);
-        let term = named(heap, tree)?;
         Ok(Shot {
-            tape,
-            term,
+            tape: Tape::new(heap),
+            term: Box::into_inner(named(heap, tree)?),
             steps: 0,
         })
     }
@@ -71,11 +62,11 @@ impl Shot {
         let Some(next) = advance(heap, &self.term, &mut self.tape)? else {
             return Ok(false);
         };
-        if size(&next) > MOST_RUNNING_CELLS {
-            return fault(37, 0);
-        }
-        self.tape.let_go(handles(&self.term) & !handles(&next));
-        self.term = next;
+        Reason::TooLong.refuse_if(size(&next) > MOST_RUNNING_CELLS, 0)?;
+        let last = mem::replace(&mut self.term, next);
+        let next = &self.term;
+        self.tape
+            .let_go(|handle| holds(&last, handle) && !holds(next, handle));
         self.steps = self.steps.saturating_add(1);
         Ok(true)
     }
@@ -85,13 +76,12 @@ impl Shot {
             match self.step(heap) {
                 Ok(true) => {}
                 Ok(false) => return Ok(Ending::Value),
-                Err(Halt::Fault { number, .. }) => return Ok(Ending::Refused(number)),
-                Err(Halt::Memory) => return Err(AllocError),
+                Err(halt) => return Ok(Ending::Refused(halt.into_fault()?.reason)),
             }
         }
         match seek(&self.term, 0) {
-            Place::Rests => Ok(Ending::Value),
-            _ => Ok(Ending::Budget),
+            None => Ok(Ending::Value),
+            Some(_) => Ok(Ending::Budget),
         }
     }
 }
@@ -99,26 +89,19 @@ impl Shot {
 // Lists a run of an accepted program.
 fn list_run(heap: Global, program: &Program, listing: &mut Listing) -> Result<(), AllocError> {
     let mut shot = Shot::new(heap, &program.tree)?;
-    match shot.run(heap)? {
-        Ending::Value => {
-            listing.head(shot.steps, 0)?;
-            if let Some(kind) = program.kinds.get(program.tree.site().claim) {
-                listing.kind(kind)?;
-            }
-            let mut scope = Vec::new(heap);
-            listing.value(&shot.term, &mut scope)?;
-            listing.journal(&shot.tape.journal)
+    let ending = shot.run(heap)?;
+    listing.head(shot.steps, ending)?;
+    if let Ending::Value = ending {
+        if let Some(kind) = program.kinds.get(program.tree.site.claim) {
+            listing.kind(kind)?;
         }
-        Ending::Budget => {
-            listing.head(shot.steps, 1)?;
-            listing.journal(&shot.tape.journal)
-        }
-        Ending::Refused(number) => {
-            listing.head(shot.steps, 2)?;
-            listing.journal(&shot.tape.journal)?;
-            listing.refusal(number, shot.steps)
-        }
+        listing.value(&shot.term, &mut Vec::new(heap))?;
     }
+    listing.journal(&shot.tape.journal)?;
+    if let Ending::Refused(reason) = ending {
+        listing.refusal(reason.at(shot.steps))?;
+    }
+    Ok(())
 }
 
 fn shoot(heap: Global, text: &[u8], listing: &mut Listing) -> Result<(), Halt> {
@@ -131,10 +114,8 @@ fn shoot(heap: Global, text: &[u8], listing: &mut Listing) -> Result<(), Halt> {
 /// The listing of a stored program's shot.
 pub fn second_shot(heap: Global, text: &[u8]) -> Result<String, AllocError> {
     let mut listing = Listing::new(heap);
-    match shoot(heap, text, &mut listing) {
-        Ok(()) => {}
-        Err(Halt::Fault { number, place }) => listing.refusal(number, place)?,
-        Err(Halt::Memory) => return Err(AllocError),
+    if let Err(halt) = shoot(heap, text, &mut listing) {
+        listing.refusal(halt.into_fault()?)?;
     }
     Ok(listing.into_text())
 }
@@ -147,29 +128,33 @@ pub fn second_check(
 ) -> Result<Option<(u16, usize)>, AllocError> {
     match accept(heap, types, terms) {
         Ok(_) => Ok(None),
-        Err(Halt::Fault { number, place }) => Ok(Some((number, place))),
-        Err(Halt::Memory) => Err(AllocError),
+        Err(halt) => Ok(Some(numbered(halt.into_fault()?))),
     }
 }
 
-/// Where the next step of any running cells is, or the number and the cell of their fault.
+fn find_rule(heap: Global, cells: &[TermCell]) -> Result<Option<(SecondRule, usize)>, Halt> {
+    test_running(cells)?;
+    let tree = grow(heap, cells)?;
+    let Some((cell, rule)) = seek(&*named(heap, &tree)?, 0) else {
+        return Ok(None);
+    };
+    let rule = rule.ok_or(Reason::NoRule.at(cell))?;
+    Ok(Some((rule, cell)))
+}
+
+/// The rule of the next step of any running cells and the cell it applies at, or nothing for a value; or the number and
+/// the cell of their fault.
 pub fn second_find(
     heap: Global,
     cells: &[TermCell],
-) -> Result<Result<Place, (u16, usize)>, AllocError> {
-    match find_place(heap, cells) {
-        Ok(place) => Ok(Ok(place)),
-        Err(Halt::Fault { number, place }) => Ok(Err((number, place))),
-        Err(Halt::Memory) => Err(AllocError),
+) -> Result<Result<Option<(SecondRule, usize)>, (u16, usize)>, AllocError> {
+    match find_rule(heap, cells) {
+        Ok(found) => Ok(Ok(found)),
+        Err(halt) => Ok(Err(numbered(halt.into_fault()?))),
     }
 }
 
-fn find_place(heap: Global, cells: &[TermCell]) -> Result<Place, Halt> {
-    test_running(cells)?;
-    let tree = grow(heap, cells)?;
-    let term = named(heap, &tree)?;
-    match seek(&term, 0) {
-        Place::Stuck(cell) => fault(36, cell),
-        place => Ok(place),
-    }
+// A fault by its number and place.
+fn numbered(fault: Fault) -> (u16, usize) {
+    (fault.reason.into(), fault.place)
 }

@@ -1,24 +1,21 @@
 //! The faults of whole tables: their lengths, their cells, that they are whole trees, and the places of claims.
 
-ghost use Rattle.std.specs.Prelude.{◌≡◌, ◌<◌, length, Err};
-ghost use Rattle.second.specs.declared.halt.Halt.TheVariants.{Fault};
+ghost use Rattle.std.specs.Prelude.{◌≡◌, ◌<◌, length, Err, true, false};
+ghost use Rattle.second.specs.declared.halt.Reason.TheVariants.{TooManyCells};
 ghost use Rattle.second.specs.Tables.{parts, kind_parts, kind_letter, fit_cell};
 
-use crate::halt::{Halt, fault};
-use calculus::{MOST_TERM_CELLS, MOST_TYPE_CELLS, TermCell, TypeCell};
+use crate::halt::{Fault, Reason};
+use calculus::{MOST_RUNNING_CELLS, MOST_TERM_CELLS, MOST_TYPE_CELLS, TermCell, TypeCell};
 
 /// How many trees follow an op as its parts.
 pub fn op_parts(op: char) -> usize
     ensures { result ≡ parts op }
 {
-    if op == 'i' {
-        3
-    } else if op == 'a' || op == 'p' || op == 'd' {
-        2
-    } else if op == 'l' {
-        1
-    } else {
-        0
+    match op {
+        'i' => 3,
+        'a' | 'p' | 'd' => 2,
+        'l' => 1,
+        _ => 0,
     }
 }
 
@@ -26,98 +23,96 @@ pub fn op_parts(op: char) -> usize
 fn type_parts(kind: char) -> usize
     ensures { result ≡ kind_parts kind }
 {
-    if kind == '>' || kind == '*' {
-        2
-    } else if kind == '!' {
-        1
-    } else {
-        0
+    match kind {
+        '>' | '*' => 2,
+        '!' => 1,
+        _ => 0,
     }
 }
 
 fn is_kind(kind: char) -> bool
     ensures { result ≡ kind_letter kind }
 {
-    kind == 'b' || kind == 'q' || kind == 'u' || kind == '!' || type_parts(kind) == 2
+    matches!(kind, 'b' | 'q' | 'u' | '!' | '>' | '*')
 }
 
-/// Whether a cell may stand in a running term, or in a stored one.
-pub fn is_fit(cell: &TermCell, is_running: bool) -> bool
-    ensures { result ≡ fit_cell cell.now is_running }
+/// Whether a cell may stand in a stored term.
+pub fn is_stored(cell: &TermCell) -> bool
+    ensures { result ≡ fit_cell cell.now false }
 {
     match cell.op {
         'v' => true,
-        'q' => is_running && cell.argument < 32,
         'g' => cell.argument < 8,
         '0' | '1' | 'm' | 'n' | 's' | 'l' | 'a' | 'p' | 'd' | 'i' => cell.argument == 0,
         _ => false,
     }
 }
 
-// The first cell that may not stand where it does.
-fn letters(types: &[TypeCell], terms: &[TermCell], is_running: bool) -> Result<(), Halt> {
-    for (i, cell) in types.iter().enumerate() {
-        if !is_kind(cell.kind) {
-            return fault(21, i);
-        }
+/// Whether a cell may stand in a running term.
+pub fn is_running(cell: &TermCell) -> bool
+    ensures { result ≡ fit_cell cell.now true }
+{
+    (cell.op == 'q' && cell.argument < 32) || is_stored(cell)
+}
+
+// Each cell passes a test, or the first that does not is at fault.
+fn each<T, F: Fn(&T) -> bool>(cells: &[T], reason: Reason, is_right: F) -> Result<(), Fault>
+    requires { F.IsAlwaysCallable is_right }
+{
+    match cells.iter().position(|cell| !is_right(cell)) {
+        Some(cell) => Err(reason.at(cell)),
+        None => Ok(()),
     }
-    for (i, cell) in terms.iter().enumerate() {
-        if !is_fit(cell, is_running) {
-            return fault(21, i);
-        }
-    }
-    Ok(())
 }
 
 // The types are whole trees, one after the other.
-fn whole_types(types: &[TypeCell]) -> Result<(), Halt> {
-    let mut due: usize = 0;
-    for cell in types {
-        due = due.saturating_sub(1).saturating_add(type_parts(cell.kind));
-    }
-    if due == 0 { Ok(()) } else { fault(22, 0) }
+fn whole_types(types: &[TypeCell]) -> Result<(), Fault> {
+    let due = types.iter().fold(
+        0usize,
+        |due, cell| due.saturating_sub(1).saturating_add(type_parts(cell.kind)),
+    );
+    Reason::NotWhole.refuse_if(due != 0, 0)
 }
 
 /// The cells are exactly one term.
-pub fn one_term(terms: &[TermCell]) -> Result<(), Halt> {
+pub fn one_term(terms: &[TermCell]) -> Result<(), Fault> {
     let mut due: usize = 1;
     for (i, cell) in terms.iter().enumerate() {
-        if due == 0 {
-            return fault(22, i);
-        }
+        Reason::NotWhole.refuse_if(due == 0, i)?;
         due = due.saturating_sub(1).saturating_add(op_parts(cell.op));
     }
-    if due == 0 { Ok(()) } else { fault(22, 0) }
+    Reason::NotWhole.refuse_if(due != 0, 0)
+}
+
+// A table has so many cells at most.
+fn short<T>(cells: &[T], most: usize) -> Result<(), Fault>
+    ensures { most < length cells.now → result ≡ Err (record { reason = TooManyCells; place = most }) }
+{
+    Reason::TooManyCells.refuse_if(cells.len() > most, most)
 }
 
 /// The first fault of a program's tables, or none.
-pub fn test_tables(types: &[TypeCell], terms: &[TermCell]) -> Result<(), Halt>
-    ensures { 256 < length types.now → result ≡ Err (Fault 20 256) }
+pub fn test_tables(types: &[TypeCell], terms: &[TermCell]) -> Result<(), Fault>
+    ensures { 256 < length types.now → result ≡ Err (record { reason = TooManyCells; place = 256 }) }
 {
-    if types.len() > MOST_TYPE_CELLS {
-        return fault(20, MOST_TYPE_CELLS);
-    }
-    if terms.len() > MOST_TERM_CELLS {
-        return fault(20, MOST_TERM_CELLS);
-    }
-    letters(types, terms, false)?;
+    short(types, MOST_TYPE_CELLS)?;
+    short(terms, MOST_TERM_CELLS)?;
+    each(types, Reason::BadCell, |cell| is_kind(cell.kind))?;
+    each(terms, Reason::BadCell, |cell| is_stored(cell))?;
     whole_types(types)?;
     one_term(terms)?;
-    for (i, cell) in terms.iter().enumerate() {
-        if cell.claim as usize >= types.len() {
-            return fault(23, i);
-        }
-    }
-    Ok(())
+    each(
+        terms,
+        Reason::ClaimOutside,
+        |cell| (cell.claim as usize) < types.len(),
+    )
 }
 
 /// The first fault of a running term's cells, or none.
-pub fn test_running(cells: &[TermCell]) -> Result<(), Halt>
-    ensures { 1024 < length cells.now → result ≡ Err (Fault 20 1024) }
+pub fn test_running(cells: &[TermCell]) -> Result<(), Fault>
+    ensures { 1024 < length cells.now → result ≡ Err (record { reason = TooManyCells; place = 1024 }) }
 {
-    if cells.len() > calculus::MOST_RUNNING_CELLS {
-        return fault(20, calculus::MOST_RUNNING_CELLS);
-    }
-    letters(&[], cells, true)?;
+    short(cells, MOST_RUNNING_CELLS)?;
+    each(cells, Reason::BadCell, |cell| is_running(cell))?;
     one_term(cells)
 }

@@ -1,11 +1,14 @@
 //! The tape's register as the second interpreter knows it: eight qubits, sixty-four pulses, and the parity of a pulse's
 //! number as its outcome.
 
-ghost use Rattle.std.specs.Prelude.{◌≡◌, ◌^◌, ◌<◌, ◌≤◌, IfSome, if◌then◌else◌, Err, vec_len, nat_lt};
-ghost use Rattle.second.specs.declared.halt.Halt.TheVariants.{Fault};
+ghost use Rattle.std.specs.Prelude.{◌≡◌, ◌<◌, ◌≤◌, [], ◌∷◌, ◌++◌, IfSome, IfOk, OnOk, Err, vec_len};
+ghost use Rattle.second.specs.declared.halt.Halt.TheVariants.{Fault as FaultHalt};
+ghost use Rattle.second.specs.declared.halt.Reason.TheVariants.{NoPulses};
+ghost use Rattle.second.specs.declared.tape.Pulse.TheVariants.{Prepare, Gate, Read};
 
-use crate::halt::{Halt, fault};
+use crate::halt::{Fault, Halt, Reason};
 use std::alloc::Global;
+use std::collections::BTreeSet;
 
 /// How many qubits may be live at once.
 pub const CAPACITY: u16 = 8;
@@ -13,127 +16,108 @@ pub const CAPACITY: u16 = 8;
 /// How many pulses there are.
 pub const PULSES: usize = 64;
 
-/// What one pulse did: a preparation with its bit, a gate with the handles it works on, or a read with its outcome.
+/// The handles that a gate works on.
+#[derive(Clone, Copy, Drop)]
+pub enum Operands {
+    One(u16),
+    Two(u16, u16),
+    Three(u16, u16, u16),
+}
+
+/// What one pulse did: a preparation with its bit, a gate of a number with its operands, or a read with its outcome.
 #[derive(Clone, Copy, Drop)]
 pub enum Pulse {
     Prepare(u16, bool),
-    One(u16, u16),
-    Two(u16, u16, u16),
-    Three(u16, u16, u16, u16),
+    Gate(u16, Operands),
     Read(u16, bool),
 }
 
-/// The live qubits as a set of bits, the last handle answered, and the pulses so far.
+/// The live qubits, the last handle answered, and the pulses so far.
 #[derive(Drop)]
 pub struct Tape {
-    live: u64,
+    live: BTreeSet<u16>,
     last: u16,
     pub journal: Vec<Pulse>,
-}
-
-fn bit(handle: u16) -> u64
-    ensures { result ≡ (if nat_lt handle 64 then 2 ^ handle else 0) }
-{
-    if handle < 64 { 1u64 << handle } else { 0 }
 }
 
 impl Tape {
     /// A new tape: its first handle is 0.
     pub fn new(heap: Global) -> Tape {
         Tape {
-            live: 0,
+            live: BTreeSet::new(heap),
             last: CAPACITY - 1,
             journal: Vec::new(heap),
         }
     }
 
     fn is_live(&self, handle: u16) -> bool {
-        self.live & bit(handle) != 0
+        self.live.contains(&handle)
     }
 
-    fn spend(&mut self, pulse: Pulse) -> Result<(), Halt> {
-        self.journal.push(pulse)?;
-        Ok(())
+    fn test_pulses(&self) -> Result<(), Fault>
+        ensures { 64 ≤ vec_len self.now.journal → result ≡ Err (record { reason = NoPulses; place = 0 }) }
+    {
+        Reason::NoPulses.refuse_if(self.journal.len() >= PULSES, 0)
     }
 
     // The next handle that is not live, going round from the last answered.
     fn next_free(&self) -> Option<u16>
         ensures { IfSome result (λ handle. handle < 8) }
     {
-        for further in 1..CAPACITY + 1 {
-            let handle = (self.last % CAPACITY + further) % CAPACITY;
-            if !self.is_live(handle) {
-                return Some(handle);
-            }
-        }
-        None
+        (1..=CAPACITY)
+            .map(|further| (self.last % CAPACITY + further) % CAPACITY)
+            .find(|handle| !self.live.contains(handle))
     }
 
     /// Prepares a qubit and answers its handle.
     pub fn prepare(&mut self, value: bool) -> Result<u16, Halt>
-        ensures { 64 ≤ vec_len self.old.journal → result ≡ Err (Fault 41 0) }
+        ensures limit { 64 ≤ vec_len self.old.journal → result ≡ Err (FaultHalt (record { reason = NoPulses; place = 0 })) }
+        ensures pulse { IfOk result (λ handle. self.new.journal.items ≡ self.old.journal.items ++ (Prepare handle value ∷ [])) }
     {
-        if self.journal.len() >= PULSES {
-            return fault(41, 0);
-        }
-        let Some(handle) = self.next_free() else {
-            return fault(42, 0);
-        };
-        self.spend(Pulse::Prepare(handle, value))?;
-        self.live |= bit(handle);
+        self.test_pulses()?;
+        let handle = self.next_free().ok_or(Reason::Full.at(0))?;
+        self.journal.push(Pulse::Prepare(handle, value))?;
+        self.live.insert(handle)?;
         self.last = handle;
         Ok(handle)
     }
 
     /// Reads a qubit, which stays live.
     pub fn read(&mut self, handle: u16) -> Result<bool, Halt>
-        ensures { 64 ≤ vec_len self.old.journal → result ≡ Err (Fault 41 0) }
+        ensures limit { 64 ≤ vec_len self.old.journal → result ≡ Err (FaultHalt (record { reason = NoPulses; place = 0 })) }
+        ensures pulse { IfOk result (λ outcome. self.new.journal.items ≡ self.old.journal.items ++ (Read handle outcome ∷ [])) }
     {
-        if self.journal.len() >= PULSES {
-            return fault(41, 0);
-        }
-        if !self.is_live(handle) {
-            return fault(45, 0);
-        }
+        self.test_pulses()?;
+        Reason::NotLive.refuse_if(!self.is_live(handle), 0)?;
         let outcome = self.journal.len() % 2 == 1;
-        self.spend(Pulse::Read(handle, outcome))?;
+        self.journal.push(Pulse::Read(handle, outcome))?;
         Ok(outcome)
     }
 
     /// Does a gate on live qubits, no two of them the same.
-    pub fn gate(&mut self, pulse: Pulse) -> Result<(), Halt>
-        ensures { 64 ≤ vec_len self.old.journal → result ≡ Err (Fault 41 0) }
+    pub fn gate(&mut self, gate: u16, on: Operands) -> Result<(), Halt>
+        ensures limit { 64 ≤ vec_len self.old.journal → result ≡ Err (FaultHalt (record { reason = NoPulses; place = 0 })) }
+        ensures pulse { OnOk result (self.new.journal.items ≡ self.old.journal.items ++ (Gate gate on ∷ [])) }
     {
-        if self.journal.len() >= PULSES {
-            return fault(41, 0);
-        }
-        let (a, b, c) = match pulse {
-            Pulse::Two(_, a, b) => (a, b, CAPACITY),
-            Pulse::Three(_, a, b, c) => (a, b, c),
-            Pulse::One(_, a) | Pulse::Prepare(a, _) | Pulse::Read(a, _) => (
-                a,
-                CAPACITY,
-                CAPACITY + 1,
+        self.test_pulses()?;
+        let (are_live, are_distinct) = match on {
+            Operands::One(a) => (self.is_live(a), true),
+            Operands::Two(a, b) => (self.is_live(a) && self.is_live(b), a != b),
+            Operands::Three(a, b, c) => (
+                self.is_live(a) && self.is_live(b) && self.is_live(c),
+                a != b && a != c && b != c,
             ),
         };
-        if !self.is_live(a)
-            || (b < CAPACITY && !self.is_live(b))
-            || (c < CAPACITY && !self.is_live(c))
-        {
-            return fault(45, 0);
-        }
-        if a == b || a == c || b == c {
-            return fault(46, 0);
-        }
-        self.spend(pulse)
+        Reason::NotLive.refuse_if(!are_live, 0)?;
+        Reason::GivenTwice.refuse_if(!are_distinct, 0)?;
+        self.journal.push(Pulse::Gate(gate, on))?;
+        Ok(())
     }
 
-    /// Lets go the qubits of a set, by rising handle.
-    pub fn let_go(&mut self, gone: u64) {
-        for handle in 0..CAPACITY {
-            if gone & bit(handle) != 0 {
-                self.live &= !bit(handle);
-            }
-        }
+    /// Lets go the live qubits that a test names.
+    pub fn let_go<F: Fn(u16) -> bool>(&mut self, is_gone: F)
+        requires { F.IsAlwaysCallable is_gone }
+    {
+        self.live.retain(|handle| !is_gone(*handle));
     }
 }

@@ -1,14 +1,14 @@
 //! Running terms as boxed trees with named variables.
 
-ghost use Rattle.std.specs.Prelude.{◌≡◌, ◌+◌, ◌-◌, ◌<◌, length, if◌then◌else◌, vec_len, OnOk, nat_lt, slice_index};
+ghost use Rattle.std.specs.Prelude.{◌≡◌, ◌+◌, ◌-◌, ◌<◌, length, if◌then◌else◌, vec_len, OnOk, nat_lt, slice_index, Some, None};
 
-use crate::nodes::{Constant, Tree};
+use crate::nodes::{Constant, Node, Tree};
 use std::alloc::{AllocError, Global};
 
-/// A running term. Each binder has a name of its own as it is loaded; 0 names no binder.
-#[derive(Drop)]
+/// A running term. Each binder has a name of its own as it is loaded; a variable has its binder's, if it has a binder.
+#[derive(Clone, Drop)]
 pub enum Term {
-    Variable(u32),
+    Variable(Option<u32>),
     Constant(Constant),
     Lambda(u32, Box<Term>),
     Apply(Box<Term>, Box<Term>),
@@ -38,16 +38,12 @@ impl Names {
     }
 }
 
-// The name that a variable's count of binders leads to, or 0 where there is no such binder.
-fn looked_up(scope: &[u32], index: u16) -> u32
-    ensures { result ≡ (if nat_lt index (length scope.now) then slice_index scope.now (length scope.now - 1 - index) else 0) }
+// The name that a variable's count of binders leads to, if there is such a binder.
+fn looked_up(scope: &[u32], index: u16) -> Option<u32>
+    ensures { result ≡ (if nat_lt index (length scope.now) then Some (slice_index scope.now (length scope.now - 1 - index)) else None) }
 {
-    let index = index as usize;
-    if index < scope.len() {
-        scope[scope.len() - 1 - index]
-    } else {
-        0
-    }
+    let level = scope.len().checked_sub(index as usize + 1)?;
+    Some(scope[level])
 }
 
 // A name that was not given before, as the nearest in scope.
@@ -65,37 +61,30 @@ pub fn name(
     tree: &Tree,
     scope: &mut Vec<u32>,
     names: &mut Names,
-) -> Result<Term, AllocError> {
-    match tree {
-        Tree::Variable(_, index) => Ok(Term::Variable(looked_up(scope, *index))),
-        Tree::Constant(_, leaf) => Ok(Term::Constant(*leaf)),
-        Tree::Lambda(_, body) => {
-            let x = bind(scope, names)?;
-            let body = Box::new(heap, name(heap, body, scope, names)?)?;
-            let _ = scope.pop();
-            Ok(Term::Lambda(x, body))
-        }
-        Tree::Apply(_, a, b) => {
-            let a = Box::new(heap, name(heap, a, scope, names)?)?;
-            Ok(Term::Apply(a, Box::new(heap, name(heap, b, scope, names)?)?))
-        }
-        Tree::Pair(_, a, b) => {
-            let a = Box::new(heap, name(heap, a, scope, names)?)?;
-            Ok(Term::Pair(a, Box::new(heap, name(heap, b, scope, names)?)?))
-        }
-        Tree::Split(_, pair, body) => {
-            let pair = Box::new(heap, name(heap, pair, scope, names)?)?;
+) -> Result<Box<Term>, AllocError> {
+    let level = scope.len();
+    let named = match &tree.node {
+        Node::Variable(index) => Term::Variable(looked_up(scope, *index)),
+        Node::Constant(leaf) => Term::Constant(*leaf),
+        Node::Lambda(body) => Term::Lambda(bind(scope, names)?, name(heap, body, scope, names)?),
+        Node::Apply(a, b) => Term::Apply(
+            name(heap, a, scope, names)?,
+            name(heap, b, scope, names)?,
+        ),
+        Node::Pair(a, b) => Term::Pair(name(heap, a, scope, names)?, name(heap, b, scope, names)?),
+        Node::Split(pair, body) => {
+            let pair = name(heap, pair, scope, names)?;
             let (x, y) = (bind(scope, names)?, bind(scope, names)?);
-            let body = Box::new(heap, name(heap, body, scope, names)?)?;
-            let _ = (scope.pop(), scope.pop());
-            Ok(Term::Split(x, y, pair, body))
+            Term::Split(x, y, pair, name(heap, body, scope, names)?)
         }
-        Tree::Choose(_, c, one, zero) => {
-            let c = Box::new(heap, name(heap, c, scope, names)?)?;
-            let one = Box::new(heap, name(heap, one, scope, names)?)?;
-            Ok(Term::Choose(c, one, Box::new(heap, name(heap, zero, scope, names)?)?))
-        }
-    }
+        Node::Choose(condition, one, zero) => Term::Choose(
+            name(heap, condition, scope, names)?,
+            name(heap, one, scope, names)?,
+            name(heap, zero, scope, names)?,
+        ),
+    };
+    scope.truncate(level);
+    Ok(Box::new(heap, named)?)
 }
 
 /// How many cells the term has, up to the most that a number holds.
@@ -115,73 +104,44 @@ pub fn size(term: &Term) -> usize
     }
 }
 
-/// The handles of the qubits that the term names, as a set of bits.
-pub fn handles(term: &Term) -> u64 {
+/// Whether the term names a qubit.
+pub fn holds(term: &Term, handle: u16) -> bool {
     match term {
-        Term::Variable(_) => 0,
-        Term::Constant(Constant::Qubit(handle)) => {
-            if *handle < 64 { 1u64 << *handle } else { 0 }
-        }
-        Term::Constant(_) => 0,
-        Term::Lambda(_, body) => handles(body),
-        Term::Apply(a, b) | Term::Pair(a, b) | Term::Split(_, _, a, b) => handles(a) | handles(b),
-        Term::Choose(a, b, c) => handles(a) | handles(b) | handles(c),
-    }
-}
-
-/// A copy of the term.
-pub fn copy(heap: Global, term: &Term) -> Result<Term, AllocError> {
-    match term {
-        Term::Variable(x) => Ok(Term::Variable(*x)),
-        Term::Constant(leaf) => Ok(Term::Constant(*leaf)),
-        Term::Lambda(x, body) => Ok(Term::Lambda(*x, Box::new(heap, copy(heap, body)?)?)),
-        Term::Apply(a, b) => {
-            let a = Box::new(heap, copy(heap, a)?)?;
-            Ok(Term::Apply(a, Box::new(heap, copy(heap, b)?)?))
-        }
-        Term::Pair(a, b) => {
-            let a = Box::new(heap, copy(heap, a)?)?;
-            Ok(Term::Pair(a, Box::new(heap, copy(heap, b)?)?))
-        }
-        Term::Split(x, y, a, b) => {
-            let a = Box::new(heap, copy(heap, a)?)?;
-            Ok(Term::Split(*x, *y, a, Box::new(heap, copy(heap, b)?)?))
-        }
-        Term::Choose(a, b, c) => {
-            let a = Box::new(heap, copy(heap, a)?)?;
-            let b = Box::new(heap, copy(heap, b)?)?;
-            Ok(Term::Choose(a, b, Box::new(heap, copy(heap, c)?)?))
-        }
+        Term::Constant(leaf) => *leaf == Constant::Qubit(handle),
+        Term::Variable(_) => false,
+        Term::Lambda(_, body) => holds(body, handle),
+        Term::Apply(a, b) | Term::Pair(a, b) | Term::Split(_, _, a, b) => holds(a, handle)
+            || holds(b, handle),
+        Term::Choose(a, b, c) => holds(a, handle) || holds(b, handle) || holds(c, handle),
     }
 }
 
 /// The term with a value that has no free variable for each free occurrence of a name.
-pub fn put(heap: Global, term: &Term, x: u32, value: &Term) -> Result<Term, AllocError> {
-    match term {
-        Term::Variable(y) if *y == x && x != 0 => copy(heap, value),
-        Term::Variable(y) => Ok(Term::Variable(*y)),
-        Term::Constant(leaf) => Ok(Term::Constant(*leaf)),
-        Term::Lambda(y, body) => {
-            let x = if *y == x { 0 } else { x };
-            Ok(Term::Lambda(*y, Box::new(heap, put(heap, body, x, value)?)?))
-        }
-        Term::Apply(a, b) => {
-            let a = Box::new(heap, put(heap, a, x, value)?)?;
-            Ok(Term::Apply(a, Box::new(heap, put(heap, b, x, value)?)?))
-        }
-        Term::Pair(a, b) => {
-            let a = Box::new(heap, put(heap, a, x, value)?)?;
-            Ok(Term::Pair(a, Box::new(heap, put(heap, b, x, value)?)?))
-        }
-        Term::Split(y, z, a, b) => {
-            let a = Box::new(heap, put(heap, a, x, value)?)?;
-            let x = if *y == x || *z == x { 0 } else { x };
-            Ok(Term::Split(*y, *z, a, Box::new(heap, put(heap, b, x, value)?)?))
-        }
-        Term::Choose(a, b, c) => {
-            let a = Box::new(heap, put(heap, a, x, value)?)?;
-            let b = Box::new(heap, put(heap, b, x, value)?)?;
-            Ok(Term::Choose(a, b, Box::new(heap, put(heap, c, x, value)?)?))
-        }
-    }
+pub fn put(heap: Global, term: &Term, x: u32, value: &Term) -> Result<Box<Term>, AllocError> {
+    let put_in = match term {
+        Term::Variable(y) if *y == Some(x) => value.clone()?,
+        Term::Variable(_) | Term::Constant(_) => term.clone()?,
+        Term::Lambda(y, _) if *y == x => term.clone()?,
+        Term::Lambda(y, body) => Term::Lambda(*y, put(heap, body, x, value)?),
+        Term::Apply(a, b) => Term::Apply(put(heap, a, x, value)?, put(heap, b, x, value)?),
+        Term::Pair(a, b) => Term::Pair(put(heap, a, x, value)?, put(heap, b, x, value)?),
+        Term::Split(y, z, pair, body) if *y == x || *z == x => Term::Split(
+            *y,
+            *z,
+            put(heap, pair, x, value)?,
+            body.clone()?,
+        ),
+        Term::Split(y, z, pair, body) => Term::Split(
+            *y,
+            *z,
+            put(heap, pair, x, value)?,
+            put(heap, body, x, value)?,
+        ),
+        Term::Choose(a, b, c) => Term::Choose(
+            put(heap, a, x, value)?,
+            put(heap, b, x, value)?,
+            put(heap, c, x, value)?,
+        ),
+    };
+    Ok(Box::new(heap, put_in)?)
 }

@@ -1,0 +1,27 @@
+-- The numbers of refusals.
+use Rattle.std.specs.Prelude.{ℕ}
+use Rattle.second.specs.declared.halt.Reason.{Reason}
+use Rattle.second.specs.declared.halt.Reason.TheVariants.{Header, Line, Number, FullTable, End, TooManyCells, BadCell, NotWhole, ClaimOutside, TooDeep, NoBinder, WrongClaim, UsedTwice, Captures, NoRule, TooLong, NoPulses, Full, NotLive, GivenTwice}
+
+-- the number that stands for a reason
+abbrev pub number_of : Reason → ℕ
+number_of Header = 11
+number_of Line = 12
+number_of Number = 13
+number_of FullTable = 14
+number_of End = 15
+number_of TooManyCells = 20
+number_of BadCell = 21
+number_of NotWhole = 22
+number_of ClaimOutside = 23
+number_of TooDeep = 24
+number_of NoBinder = 25
+number_of WrongClaim = 26
+number_of UsedTwice = 27
+number_of Captures = 28
+number_of NoRule = 36
+number_of TooLong = 37
+number_of NoPulses = 41
+number_of Full = 42
+number_of NotLive = 45
+number_of GivenTwice = 46
