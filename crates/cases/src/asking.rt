@@ -1,7 +1,7 @@
 //! Registers, asked call by call: the answer, the live handles and the pulses left.
 
 use calculus::Gate;
-use registers::{Register, RegisterFault};
+use registers::Register;
 use std::process::Abort;
 use std::test::Fail;
 
@@ -15,47 +15,33 @@ pub enum Ask<'a> {
     Clear,
 }
 
-/// What a register answers: for a refusal its number and its depth.
+/// What a register tells of an accepted call.
 #[derive(Clone, Copy, PartialEq, Eq, Debug, Drop)]
 pub enum Told {
     Handle(u8),
     Bit(bool),
     Done,
-    No(u16, u16),
 }
+
+/// An answer, or the number and the depth of a refusal.
+pub type Answer = Result<Told, (u16, u16)>;
 
 /// A call, its answer, and after it the live handles, as the bits of a number, and the pulses left.
 #[derive(Drop)]
-pub struct Asked<'a>(pub Ask<'a>, pub Told, pub u32, pub u64);
+pub struct Asked<'a>(pub Ask<'a>, pub Answer, pub u32, pub u64);
 
-fn refused(fault: RegisterFault) -> Told {
-    Told::No(fault.number(), fault.depth)
-}
-
-fn done(answer: Result<(), RegisterFault>) -> Told {
-    match answer {
-        Ok(()) => Told::Done,
-        Err(fault) => refused(fault),
-    }
-}
-
-fn tell<R: Register>(register: &mut R, ask: Ask) -> Told {
-    match ask {
-        Ask::Prepare(bit) => match register.prepare(bit) {
-            Ok(handle) => Told::Handle(handle),
-            Err(fault) => refused(fault),
-        },
-        Ask::Gate(gate, on) => done(register.gate(gate, on)),
-        Ask::Read(handle) => match register.read(handle) {
-            Ok(bit) => Told::Bit(bit),
-            Err(fault) => refused(fault),
-        },
-        Ask::LetGo(handle) => done(register.let_go(handle)),
+fn tell<R: Register>(register: &mut R, ask: Ask) -> Answer {
+    let told = match ask {
+        Ask::Prepare(bit) => register.prepare(bit).map(Told::Handle),
+        Ask::Gate(gate, on) => register.gate(gate, on).map(|()| Told::Done),
+        Ask::Read(handle) => register.read(handle).map(Told::Bit),
+        Ask::LetGo(handle) => register.let_go(handle).map(|()| Told::Done),
         Ask::Clear => {
             register.clear();
-            Told::Done
+            Ok(Told::Done)
         }
-    }
+    };
+    told.map_err(|fault| (fault.number(), fault.depth))
 }
 
 /// Checks which handles are live, how many, and the pulses left.
@@ -66,15 +52,15 @@ pub fn holds<R: Register>(
     pulses: u64,
     row: usize,
 ) -> Result<(), Fail> {
-    let mut count: usize = 0;
     for handle in 0..=255u8 {
         let due = handle < 32 && (live >> (handle % 32)) & 1 == 1;
         assert_eq!(rt; register.is_live(handle), due, "handle {handle}, row {row}");
-        if due {
-            count = count.wrapping_add(1);
-        }
     }
-    assert_eq!(rt; register.live_count(), count, "live, row {row}");
+    assert_eq!(rt;
+        register.live_count(),
+        live.count_ones() as usize,
+        "live, row {row}"
+    );
     assert_eq!(rt; register.pulses(), pulses, "pulses left, row {row}");
     Ok(())
 }

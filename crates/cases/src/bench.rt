@@ -2,7 +2,7 @@
 
 use crate::making::{KIND_MARK, MARK, front_of, kinds, terms};
 use calculus::{TermCell, TypeCell};
-use checker::{Accepted, check as check_program};
+use checker::check as check_program;
 use controller::{Controller, ControllerFault, Refusal, Stop};
 use registers::Register;
 use std::alloc::{AllocError, Global};
@@ -24,7 +24,7 @@ pub enum Call<'a> {
     Abandon,
 }
 
-/// An answer. A refusal has its number, its place, and the depth of a register's fault, 0 for any other.
+/// What an accepted call answers.
 #[derive(Clone, Copy, PartialEq, Eq, Debug, Drop)]
 pub enum Reply {
     Cells(usize),
@@ -34,12 +34,14 @@ pub enum Reply {
     Budget(u64),
     /// The steps made in the run, then as a refusal.
     Stopped(u64, u16, u64, u16),
-    No(u16, u64, u16),
 }
+
+/// An answer. A refusal has its number, its place, and the depth of a register's fault, 0 for any other.
+pub type Answer = Result<Reply, (u16, u64, u16)>;
 
 /// A call, its reply, the cells that it writes at the front of its table, and then the register's live count and pulses.
 #[derive(Drop)]
-pub struct Turn<'a>(pub Call<'a>, pub Reply, pub &'a str, pub usize, pub u64);
+pub struct Turn<'a>(pub Call<'a>, pub Answer, pub &'a str, pub usize, pub u64);
 
 /// The tables that calls are handed, and what is due in them.
 #[derive(Drop)]
@@ -49,12 +51,46 @@ struct Tables {
     types: Vec<TypeCell>,
 }
 
-fn marked(heap: Global) -> Result<Tables, AllocError> {
-    Ok(Tables {
-        work: vec![in heap; MARK; 1025]?,
-        value: vec![in heap; MARK; 1025]?,
-        types: vec![in heap; KIND_MARK; 257]?,
-    })
+impl Tables {
+    fn marked(heap: Global) -> Result<Tables, AllocError> {
+        Ok(Tables {
+            work: vec![in heap; MARK; 1025]?,
+            value: vec![in heap; MARK; 1025]?,
+            types: vec![in heap; KIND_MARK; 257]?,
+        })
+    }
+
+    // Writes what is due after a call.
+    fn expect(&mut self, heap: Global, call: Call, front: &str) -> Result<(), AllocError> {
+        let cells = terms(heap, front)?;
+        match call {
+            Call::Collect(_, _, types) => {
+                put(self.value.as_mut_slice(), cells.as_slice());
+                put(self.types.as_mut_slice(), kinds(heap, types)?.as_slice());
+            }
+            _ => put(self.work.as_mut_slice(), cells.as_slice()),
+        }
+        Ok(())
+    }
+
+    // Checks every cell against what is due after a call.
+    fn are(&self, rt: &impl Abort, due: &Tables, call: usize) -> Result<(), Fail> {
+        same(rt, self.work.as_slice(), due.work.as_slice(), "work", call)?;
+        same(
+            rt,
+            self.value.as_slice(),
+            due.value.as_slice(),
+            "value",
+            call,
+        )?;
+        same(
+            rt,
+            self.types.as_slice(),
+            due.types.as_slice(),
+            "type",
+            call,
+        )
+    }
 }
 
 fn depth_of(fault: ControllerFault) -> u16 {
@@ -64,29 +100,13 @@ fn depth_of(fault: ControllerFault) -> u16 {
     }
 }
 
-fn refused(refusal: Refusal) -> Reply {
-    Reply::No(
-        refusal.fault.number(),
-        refusal.place,
-        depth_of(refusal.fault),
-    )
-}
-
-fn counted(answer: Result<usize, Refusal>) -> Reply {
-    match answer {
-        Ok(cells) => Reply::Cells(cells),
-        Err(refusal) => refused(refusal),
-    }
-}
-
-fn ran(answer: Result<(u64, Stop), Refusal>) -> Reply {
-    match answer {
-        Ok((made, Stop::Value)) => Reply::Value(made),
-        Ok((made, Stop::Budget)) => Reply::Budget(made),
-        Ok((made, Stop::Refused { fault, steps })) => {
+fn ran((made, stop): (u64, Stop)) -> Reply {
+    match stop {
+        Stop::Value => Reply::Value(made),
+        Stop::Budget => Reply::Budget(made),
+        Stop::Refused { fault, steps } => {
             Reply::Stopped(made, fault.number(), steps, depth_of(fault))
         }
-        Err(refusal) => refused(refusal),
     }
 }
 
@@ -94,13 +114,11 @@ fn load<R: Register>(
     heap: Global,
     controller: &mut Controller<R>,
     program: Stored,
-) -> Result<Reply, Fail> {
+) -> Result<Result<usize, Refusal>, Fail> {
     let types = kinds(heap, program.0)?;
     let cells = terms(heap, program.1)?;
-    let types = types.as_slice();
-    let cells = cells.as_slice();
-    check_program(types, cells)?;
-    Ok(counted(controller.load(&Accepted::new(types, cells))))
+    let program = check_program(types.as_slice(), cells.as_slice())?;
+    Ok(controller.load(&program))
 }
 
 fn answer<R: Register>(
@@ -108,51 +126,38 @@ fn answer<R: Register>(
     controller: &mut Controller<R>,
     call: Call,
     tables: &mut Tables,
-) -> Result<Reply, Fail> {
-    match call {
-        Call::Load(program) => load(heap, controller, program),
-        Call::Step(room) => Ok(counted(controller.step(front_of(
-            tables.work.as_mut_slice(),
-            room,
-        )))),
-        Call::Run(budget, room) => Ok(ran(controller.run(
-            budget,
-            front_of(tables.work.as_mut_slice(), room),
-        ))),
+) -> Result<Answer, Fail> {
+    let answer = match call {
+        Call::Load(program) => load(heap, controller, program)?.map(Reply::Cells),
+        Call::Step(room) => {
+            let work = front_of(tables.work.as_mut_slice(), room);
+            controller.step(work).map(Reply::Cells)
+        }
+        Call::Run(budget, room) => {
+            let work = front_of(tables.work.as_mut_slice(), room);
+            controller.run(budget, work).map(ran)
+        }
         Call::Collect(value, types, _) => {
             let value = front_of(tables.value.as_mut_slice(), value);
             let types = front_of(tables.types.as_mut_slice(), types);
-            match controller.collect(value, types) {
-                Ok((cells, kinds)) => Ok(Reply::Counts(cells, kinds)),
-                Err(refusal) => Ok(refused(refusal)),
-            }
+            controller
+                .collect(value, types)
+                .map(|(cells, kinds)| Reply::Counts(cells, kinds))
         }
-        Call::Abandon => match controller.abandon() {
-            Ok(()) => Ok(Reply::Done),
-            Err(refusal) => Ok(refused(refusal)),
-        },
-    }
+        Call::Abandon => controller.abandon().map(|()| Reply::Done),
+    };
+    Ok(answer.map_err(|refusal| {
+        (
+            refusal.fault.number(),
+            refusal.place,
+            depth_of(refusal.fault),
+        )
+    }))
 }
 
 fn put<T: Copy>(table: &mut [T], cells: &[T]) {
-    for i in 0..cells.len() {
-        if i < table.len() {
-            table[i] = cells[i];
-        }
-    }
-}
-
-// Writes what is due after a call into the tables of what is due.
-fn expect(heap: Global, call: Call, front: &str, due: &mut Tables) -> Result<(), AllocError> {
-    let cells = terms(heap, front)?;
-    match call {
-        Call::Collect(_, _, types) => {
-            put(due.value.as_mut_slice(), cells.as_slice());
-            put(due.types.as_mut_slice(), kinds(heap, types)?.as_slice());
-        }
-        _ => put(due.work.as_mut_slice(), cells.as_slice()),
-    }
-    Ok(())
+    let len = cells.len().min(table.len());
+    table[..len].copy_from_slice(&cells[..len]);
 }
 
 fn same<T: Copy + Debug + PartialEq + Drop>(
@@ -163,8 +168,8 @@ fn same<T: Copy + Debug + PartialEq + Drop>(
     call: usize,
 ) -> Result<(), Fail> {
     assert_eq!(rt; got.len(), due.len(), "{table} table, call {call}");
-    for i in 0..got.len() {
-        assert_eq!(rt; got[i], due[i], "{table} table, call {call}, cell {i}");
+    for (i, (cell, want)) in got.iter().zip(due).enumerate() {
+        assert_eq!(rt; *cell, *want, "{table} table, call {call}, cell {i}");
     }
     Ok(())
 }
@@ -176,24 +181,16 @@ pub fn plays<R: Register>(
     controller: &mut Controller<R>,
     turns: &[Turn],
 ) -> Result<(), Fail> {
-    let mut tables = marked(heap)?;
-    let mut due = marked(heap)?;
+    let mut tables = Tables::marked(heap)?;
+    let mut due = Tables::marked(heap)?;
     for (i, Turn(call, want, front, live, pulses)) in turns.iter().enumerate() {
         assert_eq!(rt;
             answer(heap, controller, *call, &mut tables)?,
             *want,
             "call {i}"
         );
-        expect(heap, *call, *front, &mut due)?;
-        same(rt, tables.work.as_slice(), due.work.as_slice(), "work", i)?;
-        same(
-            rt,
-            tables.value.as_slice(),
-            due.value.as_slice(),
-            "value",
-            i,
-        )?;
-        same(rt, tables.types.as_slice(), due.types.as_slice(), "type", i)?;
+        due.expect(heap, *call, *front)?;
+        tables.are(rt, &due, i)?;
         assert_eq!(rt; controller.register().live_count(), *live, "live, call {i}");
         assert_eq!(rt; controller.register().pulses(), *pulses, "pulses, call {i}");
     }

@@ -12,10 +12,8 @@ type Verdict = Option<(u16, usize)>;
 fn judged(heap: Global, types: &str, cells: &str) -> Result<Verdict, AllocError> {
     let types = kinds(heap, types)?;
     let cells = terms(heap, cells)?;
-    match check_program(types.as_slice(), cells.as_slice()) {
-        Ok(()) => Ok(None),
-        Err(fault) => Ok(Some((fault.number(), fault.cell()))),
-    }
+    let refusal = check_program(types.as_slice(), cells.as_slice()).err();
+    Ok(refusal.map(|fault| (fault.number(), fault.cell())))
 }
 
 // The types of a program, its term, and the verdict.
@@ -190,7 +188,7 @@ fn claims(rt: HostRuntime) -> Result<(), Fail> {
     for (from, to, is_subtype) in SUBTYPES {
         let types = format!(in heap; ">{from}{to}")?;
         let body = from.len().wrapping_add(1);
-        let want = if *is_subtype { None } else { Some((26, 1)) };
+        let want = (!*is_subtype).then_some((26, 1));
         let cells = format!(in heap; "l v.{body}")?;
         assert_eq!(rt;
             judged(heap, types.as_str(), cells.as_str())?,
@@ -200,7 +198,7 @@ fn claims(rt: HostRuntime) -> Result<(), Fail> {
         );
     }
     for (constant, claim, may) in CONSTANTS {
-        let want = if *may { None } else { Some((26, 0)) };
+        let want = (!*may).then_some((26, 0));
         assert_eq!(rt;
             judged(heap, *claim, *constant)?,
             want,
@@ -246,19 +244,11 @@ const LONG: &[(&str, usize, &str, usize, Verdict)] = &[
     ("b", 0, "0 ", 600, Some((20, 512))),
 ];
 
-fn repeated(heap: Global, text: &str, times: usize) -> Result<String, AllocError> {
-    let mut all = String::new(heap);
-    for _ in 0..times {
-        all.push_str(text)?;
-    }
-    Ok(all)
-}
-
 #[test]
 fn depths_and_lengths(rt: HostRuntime) -> Result<(), Fail> {
     let heap = rt.alloc();
     for (functions, body, want) in NESTED {
-        let mut types = repeated(heap, ">b", *functions)?;
+        let mut types = ">b".repeat(heap, *functions)?;
         types.push_str("b*bbq")?;
         let mut cells = String::new(heap);
         for i in 0..*functions {
@@ -273,8 +263,8 @@ fn depths_and_lengths(rt: HostRuntime) -> Result<(), Fail> {
         );
     }
     for (kind, kinds, op, ops, want) in LONG {
-        let types = repeated(heap, *kind, *kinds)?;
-        let cells = repeated(heap, *op, *ops)?;
+        let types = kind.repeat(heap, *kinds)?;
+        let cells = op.repeat(heap, *ops)?;
         assert_eq!(rt;
             judged(heap, types.as_str(), cells.as_str())?,
             *want,

@@ -5,20 +5,12 @@ use finder::{Rule, find};
 use std::alloc::{AllocError, Global};
 use std::test::Fail;
 
-#[derive(Clone, Copy, PartialEq, Eq, Debug, Drop)]
-enum Found {
-    Value,
-    At(Rule, usize),
-    No(u16, usize),
-}
+// The rule that applies and its cell, nothing for a value, or the number and the cell of a refusal.
+type Found = Result<Option<(Rule, usize)>, (u16, usize)>;
 
 fn look(heap: Global, text: &str) -> Result<Found, AllocError> {
     let cells = terms(heap, text)?;
-    match find(cells.as_slice()) {
-        Ok(None) => Ok(Found::Value),
-        Ok(Some((rule, at))) => Ok(Found::At(rule, at)),
-        Err(fault) => Ok(Found::No(fault.number(), fault.cell())),
-    }
+    Ok(find(cells.as_slice()).map_err(|fault| (fault.number(), fault.cell())))
 }
 
 #[rattlefmt::skip]
@@ -73,35 +65,32 @@ const REFUSED: &[(&str, u16, usize)] = &[
 // So many cells of an op before a last cell.
 #[rattlefmt::skip]
 const LONG: &[(&str, usize, &str, Found)] = &[
-    ("l ", 1023, "v", Found::Value),
-    ("l ", 1024, "v", Found::No(20, 1024)),
-    ("x ", 1024, "v", Found::No(20, 1024)),
-    ("l ", 1100, "v", Found::No(20, 1024)),
-    ("x ", 1023, "v", Found::No(21, 0)),
-    ("l ", 1023, "l", Found::No(22, 0)),
-    ("s ", 1023, "q32", Found::No(21, 1023)),
-    ("s ", 1023, "s", Found::No(22, 1)),
-    ("p s ", 510, "a 0 1", Found::No(36, 1020)),
-    ("p s ", 510, "a n 1", Found::At(Rule::Prepare, 1020)),
+    ("l ", 1023, "v", Ok(None)),
+    ("l ", 1024, "v", Err((20, 1024))),
+    ("x ", 1024, "v", Err((20, 1024))),
+    ("l ", 1100, "v", Err((20, 1024))),
+    ("x ", 1023, "v", Err((21, 0))),
+    ("l ", 1023, "l", Err((22, 0))),
+    ("s ", 1023, "q32", Err((21, 1023))),
+    ("s ", 1023, "s", Err((22, 1))),
+    ("p s ", 510, "a 0 1", Err((36, 1020))),
+    ("p s ", 510, "a n 1", Ok(Some((Rule::Prepare, 1020)))),
 ];
 
 #[test]
 fn rules(rt: HostRuntime) -> Result<(), Fail> {
     let heap = rt.alloc();
     for text in VALUES {
-        assert_eq!(rt; look(heap, *text)?, Found::Value, "{}", *text);
+        assert_eq!(rt; look(heap, *text)?, Ok(None), "{}", *text);
     }
     for (text, rule, cell) in REDEXES {
-        assert_eq!(rt; look(heap, *text)?, Found::At(*rule, *cell), "{}", *text);
+        assert_eq!(rt; look(heap, *text)?, Ok(Some((*rule, *cell))), "{}", *text);
     }
     for (text, number, cell) in REFUSED {
-        assert_eq!(rt; look(heap, *text)?, Found::No(*number, *cell), "{}", *text);
+        assert_eq!(rt; look(heap, *text)?, Err((*number, *cell)), "{}", *text);
     }
     for (op, times, last, want) in LONG {
-        let mut text = String::new(heap);
-        for _ in 0..*times {
-            text.push_str(*op)?;
-        }
+        let mut text = op.repeat(heap, *times)?;
         text.push_str(*last)?;
         assert_eq!(rt; look(heap, text.as_str())?, *want, "{times} of {op}");
     }

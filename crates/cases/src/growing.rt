@@ -2,7 +2,7 @@
 
 use crate::making::{MARK, kinds, starts_with, terms};
 use calculus::TypeCell;
-use checker::{Accepted, check as check_program};
+use checker::check as check_program;
 use controller::Controller;
 use registers::{Level, Register};
 use std::alloc::{AllocError, Global};
@@ -16,12 +16,8 @@ fn long_function(heap: Global, identities: usize, claims: bool) -> Result<String
     } else {
         ("l ", "a l v ", "v ")
     };
-    let mut text = String::from_str(heap, head)?;
-    for _ in 0..identities {
-        text.push_str(link)?;
-    }
-    text.push_str(last)?;
-    Ok(text)
+    let links = link.repeat(heap, identities)?;
+    format!(in heap; "{head}{}{last}", links.as_str())
 }
 
 // The types and the term of (fun f. <0, <0, .. <f, <f, f>>>>) long, with so many zeros.
@@ -43,14 +39,9 @@ fn program(heap: Global, identities: usize, zeros: usize) -> Result<(String, Str
 // The term that the program steps to.
 fn grown(heap: Global, identities: usize, zeros: usize) -> Result<String, AllocError> {
     let long = long_function(heap, identities, false)?;
-    let mut text = String::new(heap);
-    for _ in 0..zeros {
-        text.push_str("p 0 ")?;
-    }
-    for part in ["p ", long.as_str(), "p ", long.as_str(), long.as_str()] {
-        text.push_str(part)?;
-    }
-    Ok(text)
+    let long = long.as_str();
+    let front = "p 0 ".repeat(heap, zeros)?;
+    format!(in heap; "{}p {long}p {long}{long}", front.as_str())
 }
 
 // A program of so many identities and zeros, its cells, and those of the next term.
@@ -96,10 +87,10 @@ fn is_too_long(
     case: &str,
 ) -> Result<(), Fail> {
     let mut work = [MARK; 1024];
-    match controller.step(&mut work) {
-        Ok(_) => return Err(Fail::new("the step is accepted")),
-        Err(refusal) => assert_eq!(rt; (refusal.fault.number(), refusal.place), (37, 0), "{case}"),
-    }
+    let answer = controller
+        .step(&mut work)
+        .map_err(|refusal| (refusal.fault.number(), refusal.place));
+    assert_eq!(rt; answer, Err((37, 0)), "{case}");
     starts_with(rt, &work, &[], MARK, case)?;
     assert_eq!(rt; controller.register().pulses(), 3, "{case}");
     Ok(())
@@ -111,15 +102,9 @@ fn next_term(rt: &impl Abort, heap: Global, case: Size) -> Result<(), Fail> {
     let (types, text) = program(heap, case.identities, case.zeros)?;
     let types = kinds(heap, types.as_str())?;
     let text = terms(heap, text.as_str())?;
-    let types = types.as_slice();
-    let text = text.as_slice();
-    check_program(types, text)?;
+    let program = check_program(types.as_slice(), text.as_slice())?;
     let mut controller = Controller::new(Level::new(8, 3));
-    assert_eq!(rt;
-        controller.load(&Accepted::new(types, text))?,
-        case.loaded,
-        "{label}"
-    );
+    assert_eq!(rt; controller.load(&program)?, case.loaded, "{label}");
     let due = grown(heap, case.identities, case.zeros)?;
     assert_eq!(rt; terms(heap, due.as_str())?.len(), case.next, "{label}");
     if case.next <= 1024 {

@@ -40,28 +40,28 @@ const LAYERS: &[Layers] = &[
 // A cap of 2 over a cap of 3 over a level of 4 with 9 pulses: every fault but the cap's own comes from two layers below.
 #[rattlefmt::skip]
 const CAPPED: &[Asked] = &[
-    Asked(Ask::Gate(Gate::H, &[9]), Told::No(43, 2), 0, 9),
-    Asked(Ask::Gate(Gate::X, &[]), Told::No(44, 2), 0, 9),
-    Asked(Ask::Gate(Gate::Cnot, &[9, 9]), Told::No(45, 2), 0, 9),
-    Asked(Ask::Read(0), Told::No(45, 2), 0, 9),
-    Asked(Ask::LetGo(3), Told::No(45, 2), 0, 9),
-    Asked(Ask::Prepare(true), Told::Handle(0), 0b1, 8),
-    Asked(Ask::Gate(Gate::Cnot, &[0, 0]), Told::No(46, 2), 0b1, 8),
-    Asked(Ask::Prepare(false), Told::Handle(1), 0b11, 7),
-    Asked(Ask::Prepare(false), Told::No(42, 0), 0b11, 7),
-    Asked(Ask::Gate(Gate::Swap, &[0, 1]), Told::Done, 0b11, 6),
-    Asked(Ask::Read(0), Told::Bit(false), 0b11, 5),
-    Asked(Ask::Read(1), Told::Bit(true), 0b11, 4),
-    Asked(Ask::LetGo(0), Told::Done, 0b10, 4),
-    Asked(Ask::Prepare(true), Told::Handle(2), 0b110, 3),
-    Asked(Ask::Clear, Told::Done, 0, 3),
-    Asked(Ask::Prepare(true), Told::Handle(3), 0b1000, 2),
-    Asked(Ask::Prepare(true), Told::Handle(0), 0b1001, 1),
-    Asked(Ask::Read(3), Told::Bit(true), 0b1001, 0),
-    Asked(Ask::Prepare(true), Told::No(41, 2), 0b1001, 0),
-    Asked(Ask::Gate(Gate::H, &[]), Told::No(41, 2), 0b1001, 0),
-    Asked(Ask::Read(9), Told::No(41, 2), 0b1001, 0),
-    Asked(Ask::LetGo(9), Told::No(45, 2), 0b1001, 0),
+    Asked(Ask::Gate(Gate::H, &[9]), Err((43, 2)), 0, 9),
+    Asked(Ask::Gate(Gate::X, &[]), Err((44, 2)), 0, 9),
+    Asked(Ask::Gate(Gate::Cnot, &[9, 9]), Err((45, 2)), 0, 9),
+    Asked(Ask::Read(0), Err((45, 2)), 0, 9),
+    Asked(Ask::LetGo(3), Err((45, 2)), 0, 9),
+    Asked(Ask::Prepare(true), Ok(Told::Handle(0)), 0b1, 8),
+    Asked(Ask::Gate(Gate::Cnot, &[0, 0]), Err((46, 2)), 0b1, 8),
+    Asked(Ask::Prepare(false), Ok(Told::Handle(1)), 0b11, 7),
+    Asked(Ask::Prepare(false), Err((42, 0)), 0b11, 7),
+    Asked(Ask::Gate(Gate::Swap, &[0, 1]), Ok(Told::Done), 0b11, 6),
+    Asked(Ask::Read(0), Ok(Told::Bit(false)), 0b11, 5),
+    Asked(Ask::Read(1), Ok(Told::Bit(true)), 0b11, 4),
+    Asked(Ask::LetGo(0), Ok(Told::Done), 0b10, 4),
+    Asked(Ask::Prepare(true), Ok(Told::Handle(2)), 0b110, 3),
+    Asked(Ask::Clear, Ok(Told::Done), 0, 3),
+    Asked(Ask::Prepare(true), Ok(Told::Handle(3)), 0b1000, 2),
+    Asked(Ask::Prepare(true), Ok(Told::Handle(0)), 0b1001, 1),
+    Asked(Ask::Read(3), Ok(Told::Bit(true)), 0b1001, 0),
+    Asked(Ask::Prepare(true), Err((41, 2)), 0b1001, 0),
+    Asked(Ask::Gate(Gate::H, &[]), Err((41, 2)), 0b1001, 0),
+    Asked(Ask::Read(9), Err((41, 2)), 0b1001, 0),
+    Asked(Ask::LetGo(9), Err((45, 2)), 0b1001, 0),
 ];
 
 #[test]
@@ -74,10 +74,10 @@ fn caps(rt: HostRuntime) -> Result<(), Fail> {
             register.prepare(true)?;
         }
         let left = case.pulses.saturating_sub(case.accepted);
-        match register.prepare(true) {
-            Ok(_) => return Err(Fail::new("a prepare is accepted")),
-            Err(fault) => assert_eq!(rt; (fault.number(), fault.depth), case.refusal, "{}", i),
-        }
+        let answer = register
+            .prepare(true)
+            .map_err(|fault| (fault.number(), fault.depth));
+        assert_eq!(rt; answer, Err(case.refusal), "{}", i);
         assert_eq!(rt; register.live_count() as u64, case.accepted, "{}", i);
         assert_eq!(rt; register.pulses(), left, "{}", i);
     }
@@ -89,42 +89,42 @@ fn caps(rt: HostRuntime) -> Result<(), Fail> {
 // A register of capacity 3 with 20 pulses.
 #[rattlefmt::skip]
 const ROUND: &[Asked] = &[
-    Asked(Ask::Prepare(false), Told::Handle(0), 0b1, 19),
-    Asked(Ask::Prepare(false), Told::Handle(1), 0b11, 18),
-    Asked(Ask::LetGo(0), Told::Done, 0b10, 18),
-    Asked(Ask::Prepare(false), Told::Handle(2), 0b110, 17),
-    Asked(Ask::Prepare(false), Told::Handle(0), 0b111, 16),
-    Asked(Ask::LetGo(1), Told::Done, 0b101, 16),
-    Asked(Ask::LetGo(2), Told::Done, 0b1, 16),
-    Asked(Ask::Prepare(false), Told::Handle(1), 0b11, 15),
-    Asked(Ask::Clear, Told::Done, 0, 15),
-    Asked(Ask::Prepare(false), Told::Handle(2), 0b100, 14),
-    Asked(Ask::LetGo(2), Told::Done, 0, 14),
-    Asked(Ask::Prepare(false), Told::Handle(0), 0b1, 13),
-    Asked(Ask::Prepare(false), Told::Handle(1), 0b11, 12),
-    Asked(Ask::Prepare(false), Told::Handle(2), 0b111, 11),
-    Asked(Ask::Prepare(false), Told::No(42, 0), 0b111, 11),
-    Asked(Ask::LetGo(1), Told::Done, 0b101, 11),
-    Asked(Ask::LetGo(0), Told::Done, 0b100, 11),
-    Asked(Ask::Gate(Gate::X, &[9]), Told::No(45, 0), 0b100, 11),
-    Asked(Ask::Prepare(false), Told::Handle(0), 0b101, 10),
-    Asked(Ask::LetGo(2), Told::Done, 0b1, 10),
-    Asked(Ask::Prepare(false), Told::Handle(1), 0b11, 9),
-    Asked(Ask::Prepare(false), Told::Handle(2), 0b111, 8),
+    Asked(Ask::Prepare(false), Ok(Told::Handle(0)), 0b1, 19),
+    Asked(Ask::Prepare(false), Ok(Told::Handle(1)), 0b11, 18),
+    Asked(Ask::LetGo(0), Ok(Told::Done), 0b10, 18),
+    Asked(Ask::Prepare(false), Ok(Told::Handle(2)), 0b110, 17),
+    Asked(Ask::Prepare(false), Ok(Told::Handle(0)), 0b111, 16),
+    Asked(Ask::LetGo(1), Ok(Told::Done), 0b101, 16),
+    Asked(Ask::LetGo(2), Ok(Told::Done), 0b1, 16),
+    Asked(Ask::Prepare(false), Ok(Told::Handle(1)), 0b11, 15),
+    Asked(Ask::Clear, Ok(Told::Done), 0, 15),
+    Asked(Ask::Prepare(false), Ok(Told::Handle(2)), 0b100, 14),
+    Asked(Ask::LetGo(2), Ok(Told::Done), 0, 14),
+    Asked(Ask::Prepare(false), Ok(Told::Handle(0)), 0b1, 13),
+    Asked(Ask::Prepare(false), Ok(Told::Handle(1)), 0b11, 12),
+    Asked(Ask::Prepare(false), Ok(Told::Handle(2)), 0b111, 11),
+    Asked(Ask::Prepare(false), Err((42, 0)), 0b111, 11),
+    Asked(Ask::LetGo(1), Ok(Told::Done), 0b101, 11),
+    Asked(Ask::LetGo(0), Ok(Told::Done), 0b100, 11),
+    Asked(Ask::Gate(Gate::X, &[9]), Err((45, 0)), 0b100, 11),
+    Asked(Ask::Prepare(false), Ok(Told::Handle(0)), 0b101, 10),
+    Asked(Ask::LetGo(2), Ok(Told::Done), 0b1, 10),
+    Asked(Ask::Prepare(false), Ok(Told::Handle(1)), 0b11, 9),
+    Asked(Ask::Prepare(false), Ok(Told::Handle(2)), 0b111, 8),
 ];
 
 // A register of capacity 32, full, with 8 pulses left.
 #[rattlefmt::skip]
 const FILLED: &[Asked] = &[
-    Asked(Ask::Prepare(true), Told::No(42, 0), 0xffff_ffff, 8),
-    Asked(Ask::LetGo(31), Told::Done, 0x7fff_ffff, 8),
-    Asked(Ask::LetGo(7), Told::Done, 0x7fff_ff7f, 8),
-    Asked(Ask::Prepare(true), Told::Handle(7), 0x7fff_ffff, 7),
-    Asked(Ask::Prepare(true), Told::Handle(31), 0xffff_ffff, 6),
+    Asked(Ask::Prepare(true), Err((42, 0)), 0xffff_ffff, 8),
+    Asked(Ask::LetGo(31), Ok(Told::Done), 0x7fff_ffff, 8),
+    Asked(Ask::LetGo(7), Ok(Told::Done), 0x7fff_ff7f, 8),
+    Asked(Ask::Prepare(true), Ok(Told::Handle(7)), 0x7fff_ffff, 7),
+    Asked(Ask::Prepare(true), Ok(Told::Handle(31)), 0xffff_ffff, 6),
 ];
 
 // A register of capacity 0.
-const NO_ROOM: &[Asked] = &[Asked(Ask::Prepare(true), Told::No(42, 0), 0, 5)];
+const NO_ROOM: &[Asked] = &[Asked(Ask::Prepare(true), Err((42, 0)), 0, 5)];
 
 fn fill<R: Register>(rt: &impl Abort, register: &mut R) -> Result<(), Fail> {
     assert_eq!(rt; register.capacity(), 32);

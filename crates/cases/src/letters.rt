@@ -1,6 +1,6 @@
 //! The letters of ops and kinds, and the numbers of gates.
 
-use calculus::{Gate, TermCell, is_allowed, kind_parts, op_shape};
+use calculus::{Gate, TermCell, UnknownGate, is_allowed, kind_parts, op_shape};
 
 // An op, its parts, and how many arguments it allows.
 #[derive(Drop)]
@@ -8,12 +8,7 @@ struct Op(char, usize, usize);
 
 // The parts and the arguments of an op, as the table has them.
 fn shape_in(ops: &[Op], letter: char) -> Option<(usize, usize)> {
-    for op in ops {
-        if op.0 == letter {
-            return Some((op.1, op.2));
-        }
-    }
-    None
+    ops.iter().find(|op| op.0 == letter).map(|op| (op.1, op.2))
 }
 
 #[rattlefmt::skip]
@@ -38,15 +33,9 @@ fn ops(rt: HostRuntime) {
     for byte in 0..=255u8 {
         let letter = byte as char;
         let want = shape_in(OPS, letter);
-        let got = match op_shape(letter) {
-            Some(shape) => Some((shape.parts, shape.arguments)),
-            None => None,
-        };
+        let got = op_shape(letter).map(|shape| (shape.parts, shape.arguments));
         assert_eq!(rt; got, want, "{}", letter);
-        let allowed = match want {
-            Some((_, arguments)) => arguments,
-            None => 0,
-        };
+        let allowed = want.map_or(0, |(_, arguments)| arguments);
         for argument in [0u16, 1, 7, 8, 31, 32, 65_535] {
             let cell = TermCell {
                 op: letter,
@@ -89,14 +78,13 @@ fn kinds_and_gates(rt: HostRuntime) {
         assert_eq!(rt; kind_parts(letter), want, "{}", letter);
     }
     for number in 0..=65_535u16 {
-        let gate = Gate::from_number(number);
-        if (number as usize) < GATES.len() {
-            let (want, operands) = GATES[number as usize];
-            assert_eq!(rt; gate, Some(want), "{}", number);
-            assert_eq!(rt; want.number(), number);
-            assert_eq!(rt; want.operands(), operands, "{}", number);
-        } else {
-            assert_eq!(rt; gate, None, "{}", number);
-        }
+        let gate = Gate::try_from(number);
+        let Some((want, operands)) = GATES.get(number as usize) else {
+            assert_eq!(rt; gate, Err(UnknownGate), "{}", number);
+            continue;
+        };
+        assert_eq!(rt; gate, Ok(*want), "{}", number);
+        assert_eq!(rt; u16::from(*want), number);
+        assert_eq!(rt; want.operands(), *operands, "{}", number);
     }
 }

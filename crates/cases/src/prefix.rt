@@ -1,38 +1,11 @@
 //! Prefix trees of type cells and of term cells, unfinished ones too.
 
-ghost use Rattle.calculus.specs.Letters.{allowed};
-ghost use Rattle.checker.specs.Tables.{known_kind};
-
 use crate::making::{KIND_MARK, MARK, front_of, kinds, starts_with, terms};
-use calculus::{TermCell, TypeCell, is_allowed, kind_parts};
+use calculus::{is_allowed, kind_parts};
 use std::fmt::Debug;
 use std::process::Abort;
 use std::test::Fail;
-use trees::{Cell, Test, copy, count, first_failing, reach};
-
-// The test of a known kind.
-#[derive(Drop)]
-struct Known;
-
-impl Test<TypeCell> for Known {
-    ghost holds = { λ _. known_kind };
-
-    fn passes(&self, cell: TypeCell) -> bool {
-        kind_parts(cell.kind).is_some()
-    }
-}
-
-// The test of an op with an argument that it allows.
-#[derive(Drop)]
-struct Allowed;
-
-impl Test<TermCell> for Allowed {
-    ghost holds = { λ _. allowed };
-
-    fn passes(&self, cell: TermCell) -> bool {
-        is_allowed(cell)
-    }
-}
+use trees::{Cell, copy, count, first_failing, reach};
 
 // Cells, the start of a tree in them, one past its end, how many trees all the cells are, and the first cell with an unknown letter.
 #[derive(Drop)]
@@ -46,27 +19,27 @@ struct Case<'a> {
 
 // The copy that is wanted: the tree's cells, if it ends and the table has room.
 fn copied(case: &Case, room: usize) -> Option<usize> {
-    match case.end {
-        Some(end) if end >= case.at && end - case.at <= room => Some(end - case.at),
-        _ => None,
-    }
+    let len = case.end?.checked_sub(case.at)?;
+    (len <= room).then_some(len)
 }
 
 // Asks every question about the cells of a case, and copies the tree into every front of a table but the whole.
-fn examine<T: Cell + Debug + PartialEq + Drop, F: Test<T>>(
+fn examine<T: Cell + Debug + PartialEq + Drop, F: Fn(T) -> bool>(
     rt: &impl Abort,
     cells: &[T],
     table: &mut [T],
     mark: T,
-    test: &F,
+    passes: F,
     case: &Case,
-) -> Result<(), Fail> {
+) -> Result<(), Fail>
+    requires { F.IsAlwaysCallable passes }
+{
     assert_eq!(rt; reach(cells, case.at), case.end, "{}", case.text);
     assert_eq!(rt; count(cells), case.trees, "{}", case.text);
-    assert_eq!(rt; first_failing(test, cells), case.failing, "{}", case.text);
+    assert_eq!(rt; first_failing(cells, passes), case.failing, "{}", case.text);
     for room in 0..table.len() {
-        for i in 0..table.len() {
-            table[i] = mark;
+        for cell in table.iter_mut() {
+            *cell = mark;
         }
         let want = copied(case, room);
         assert_eq!(rt;
@@ -112,7 +85,7 @@ fn trees_of_types(rt: HostRuntime) -> Result<(), Fail> {
             cells.as_slice(),
             &mut [KIND_MARK; 12],
             KIND_MARK,
-            &Known,
+            |cell| kind_parts(cell.kind).is_some(),
             case,
         )?;
     }
@@ -143,7 +116,14 @@ const TERMS: &[Case] = &[
 fn trees_of_terms(rt: HostRuntime) -> Result<(), Fail> {
     for case in TERMS {
         let cells = terms(rt.alloc(), case.text)?;
-        examine(&rt, cells.as_slice(), &mut [MARK; 12], MARK, &Allowed, case)?;
+        examine(
+            &rt,
+            cells.as_slice(),
+            &mut [MARK; 12],
+            MARK,
+            |cell| is_allowed(cell),
+            case,
+        )?;
     }
     Ok(())
 }

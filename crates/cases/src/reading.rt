@@ -9,7 +9,7 @@ use std::test::Fail;
 // The counts of an accepted read, or the number and the line of a refused one.
 type Verdict = Result<(usize, usize), (u16, usize)>;
 
-// What follows the header line, the cells of the two tables, the verdict, and the cells that are left in them.
+// A text, the cells of the two tables, the verdict, and the cells that are left in them.
 #[derive(Drop)]
 struct Case<'a>(&'a str, (usize, usize), Verdict, &'a str, &'a str);
 
@@ -18,27 +18,31 @@ const TYPE_ROOM: usize = 300;
 const TERM_ROOM: usize = 600;
 
 // Reads a text into marked tables of so many cells, and checks the verdict and every cell.
-fn reads(
-    rt: &impl Abort,
-    heap: Global,
-    text: &str,
-    room: (usize, usize),
-    want: Verdict,
-    left: (&str, &str),
-) -> Result<(), Fail> {
+fn reads(rt: &impl Abort, heap: Global, case: &Case) -> Result<(), Fail> {
+    let Case(text, room, want, kinds_left, terms_left) = case;
     let mut types = [KIND_MARK; TYPE_ROOM];
     let mut cells = [MARK; TERM_ROOM];
-    let got = match read(
+    let got = read(
         text.as_bytes(),
         front_of(&mut types, room.0),
         front_of(&mut cells, room.1),
-    ) {
-        Ok(counts) => Ok(counts),
-        Err(fault) => Err((fault.number(), fault.line)),
-    };
-    assert_eq!(rt; got, want, "{}", text);
-    starts_with(rt, &types, kinds(heap, left.0)?.as_slice(), KIND_MARK, text)?;
-    starts_with(rt, &cells, terms(heap, left.1)?.as_slice(), MARK, text)
+    );
+    let got = got.map_err(|fault| (fault.number(), fault.line));
+    assert_eq!(rt; got, *want, "{}", *text);
+    starts_with(
+        rt,
+        &types,
+        kinds(heap, *kinds_left)?.as_slice(),
+        KIND_MARK,
+        *text,
+    )?;
+    starts_with(
+        rt,
+        &cells,
+        terms(heap, *terms_left)?.as_slice(),
+        MARK,
+        *text,
+    )
 }
 
 #[rattlefmt::skip]
@@ -50,20 +54,19 @@ const FIRST_LINES: &[(&str, u16)] = &[
 
 #[test]
 fn first_lines(rt: HostRuntime) -> Result<(), Fail> {
-    for case in FIRST_LINES {
-        reads(&rt, rt.alloc(), case.0, (0, 0), Err((case.1, 1)), ("", ""))?;
-        reads(
-            &rt,
-            rt.alloc(),
-            case.0,
-            (300, 600),
-            Err((case.1, 1)),
-            ("", ""),
-        )?;
+    for (text, number) in FIRST_LINES {
+        for room in [(0, 0), (300, 600)] {
+            reads(
+                &rt,
+                rt.alloc(),
+                &Case(*text, room, Err((*number, 1)), "", ""),
+            )?;
+        }
     }
     Ok(())
 }
 
+// What follows the header line.
 #[rattlefmt::skip]
 const LATER_LINES: &[Case] = &[
     // An unended line comes before all that is wrong in it.
@@ -140,9 +143,13 @@ const LATER_LINES: &[Case] = &[
 #[test]
 fn later_lines(rt: HostRuntime) -> Result<(), Fail> {
     let heap = rt.alloc();
-    for case in LATER_LINES {
-        let text = format!(in heap; "QL\t1\n{}", case.0)?;
-        reads(&rt, heap, text.as_str(), case.1, case.2, (case.3, case.4))?;
+    for Case(lines, room, want, types, cells) in LATER_LINES {
+        let text = format!(in heap; "QL\t1\n{lines}")?;
+        reads(
+            &rt,
+            heap,
+            &Case(text.as_str(), *room, *want, *types, *cells),
+        )?;
     }
     Ok(())
 }
@@ -168,24 +175,15 @@ fn number_fields(rt: HostRuntime) -> Result<(), Fail> {
                 Some((argument, claim)) if *stands => format!(in heap; "v{argument}.{claim}")?,
                 _ => String::new(heap),
             };
-            let (end, counted) = if *stands { (15, 4) } else { (13, 3) };
+            let want = if *stands { Err((15, 4)) } else { Err((13, 3)) };
             reads(
                 &rt,
                 heap,
-                op.as_str(),
-                (9, 9),
-                Err((end, counted)),
-                ("u", left.as_str()),
+                &Case(op.as_str(), (9, 9), want, "u", left.as_str()),
             )?;
             let counts = format!(in heap; "QL\t1\nT\tu\nE\t{field}\n")?;
-            reads(
-                &rt,
-                heap,
-                counts.as_str(),
-                (9, 9),
-                Err((if *stands { 15 } else { 13 }, 3)),
-                ("u", ""),
-            )?;
+            let want = Err((if *stands { 15 } else { 13 }, 3));
+            reads(&rt, heap, &Case(counts.as_str(), (9, 9), want, "u", ""))?;
         }
     }
     Ok(())
@@ -207,29 +205,25 @@ const LIMITS: &[((usize, usize), (usize, usize), Verdict)] = &[
 fn limits_of_tables(rt: HostRuntime) -> Result<(), Fail> {
     let heap = rt.alloc();
     for (lines, room, want) in LIMITS {
-        let mut text = String::from_str(heap, "QL\t1\n")?;
-        let mut types = String::new(heap);
-        let mut cells = String::new(heap);
-        for i in 0..lines.0 {
-            text.push_str("T\tu\n")?;
-            if i < 256 && i < room.0 {
-                types.push_str("u")?;
-            }
-        }
-        for i in 0..lines.1 {
-            text.push_str("M\ts\t0\t8\n")?;
-            if i < 512 && i < room.1 && lines.0 <= 256 && lines.0 <= room.0 {
-                cells.push_str("s.8 ")?;
-            }
-        }
-        text.push_str(format!(in heap; "E\t{}\t{}\n", lines.0, lines.1)?.as_str())?;
+        let type_lines = "T\tu\n".repeat(heap, lines.0)?;
+        let term_lines = "M\ts\t0\t8\n".repeat(heap, lines.1)?;
+        let (type_lines, term_lines) = (type_lines.as_str(), term_lines.as_str());
+        let text = format!(in heap;
+            "QL\t1\n{type_lines}{term_lines}E\t{}\t{}\n",
+            lines.0, lines.1
+        )?;
+        let type_room = room.0.min(256);
+        let term_room = if lines.0 <= type_room {
+            room.1.min(512)
+        } else {
+            0
+        };
+        let types = "u".repeat(heap, lines.0.min(type_room))?;
+        let cells = "s.8 ".repeat(heap, lines.1.min(term_room))?;
         reads(
             &rt,
             heap,
-            text.as_str(),
-            *room,
-            *want,
-            (types.as_str(), cells.as_str()),
+            &Case(text.as_str(), *room, *want, types.as_str(), cells.as_str()),
         )?;
     }
     Ok(())

@@ -9,42 +9,42 @@ use std::test::Fail;
 // A tape of capacity 2 with 7 pulses: 44 before 45 before 46, a missing handle before one given twice, 41 before all.
 #[rattlefmt::skip]
 const TAPE: &[Asked] = &[
-    Asked(Ask::Gate(Gate::H, &[0]), Told::No(45, 0), 0, 7),
-    Asked(Ask::Read(0), Told::No(45, 0), 0, 7),
-    Asked(Ask::Read(32), Told::No(45, 0), 0, 7),
-    Asked(Ask::Read(255), Told::No(45, 0), 0, 7),
-    Asked(Ask::LetGo(0), Told::No(45, 0), 0, 7),
-    Asked(Ask::LetGo(64), Told::No(45, 0), 0, 7),
-    Asked(Ask::Gate(Gate::H, &[]), Told::No(44, 0), 0, 7),
-    Asked(Ask::Gate(Gate::Cnot, &[5]), Told::No(44, 0), 0, 7),
-    Asked(Ask::Gate(Gate::Cnot, &[5, 5]), Told::No(45, 0), 0, 7),
-    Asked(Ask::Clear, Told::Done, 0, 7),
-    Asked(Ask::Prepare(true), Told::Handle(0), 0b1, 6),
-    Asked(Ask::Gate(Gate::Cnot, &[0, 0]), Told::No(46, 0), 0b1, 6),
-    Asked(Ask::Gate(Gate::Toffoli, &[0, 0, 5]), Told::No(45, 0), 0b1, 6),
-    Asked(Ask::Gate(Gate::Toffoli, &[0, 0]), Told::No(44, 0), 0b1, 6),
-    Asked(Ask::Gate(Gate::H, &[0, 0]), Told::No(44, 0), 0b1, 6),
-    Asked(Ask::Gate(Gate::Cnot, &[0, 255]), Told::No(45, 0), 0b1, 6),
-    Asked(Ask::Prepare(false), Told::Handle(1), 0b11, 5),
-    Asked(Ask::Gate(Gate::Toffoli, &[1, 0, 1]), Told::No(46, 0), 0b11, 5),
-    Asked(Ask::Prepare(true), Told::No(42, 0), 0b11, 5),
-    Asked(Ask::Gate(Gate::Swap, &[1, 0]), Told::Done, 0b11, 4),
-    Asked(Ask::Read(1), Told::Bit(true), 0b11, 3),
-    Asked(Ask::LetGo(0), Told::Done, 0b10, 3),
-    Asked(Ask::Prepare(false), Told::Handle(0), 0b11, 2),
-    Asked(Ask::Gate(Gate::Z, &[0]), Told::Done, 0b11, 1),
-    Asked(Ask::Read(0), Told::Bit(false), 0b11, 0),
-    Asked(Ask::Prepare(true), Told::No(41, 0), 0b11, 0),
-    Asked(Ask::Gate(Gate::H, &[0]), Told::No(41, 0), 0b11, 0),
-    Asked(Ask::Gate(Gate::Cnot, &[]), Told::No(41, 0), 0b11, 0),
-    Asked(Ask::Gate(Gate::Cnot, &[9, 9]), Told::No(41, 0), 0b11, 0),
-    Asked(Ask::Gate(Gate::Cnot, &[1, 1]), Told::No(41, 0), 0b11, 0),
-    Asked(Ask::Read(9), Told::No(41, 0), 0b11, 0),
-    Asked(Ask::Read(0), Told::No(41, 0), 0b11, 0),
-    Asked(Ask::LetGo(9), Told::No(45, 0), 0b11, 0),
-    Asked(Ask::LetGo(0), Told::Done, 0b10, 0),
-    Asked(Ask::Clear, Told::Done, 0, 0),
-    Asked(Ask::Prepare(true), Told::No(41, 0), 0, 0),
+    Asked(Ask::Gate(Gate::H, &[0]), Err((45, 0)), 0, 7),
+    Asked(Ask::Read(0), Err((45, 0)), 0, 7),
+    Asked(Ask::Read(32), Err((45, 0)), 0, 7),
+    Asked(Ask::Read(255), Err((45, 0)), 0, 7),
+    Asked(Ask::LetGo(0), Err((45, 0)), 0, 7),
+    Asked(Ask::LetGo(64), Err((45, 0)), 0, 7),
+    Asked(Ask::Gate(Gate::H, &[]), Err((44, 0)), 0, 7),
+    Asked(Ask::Gate(Gate::Cnot, &[5]), Err((44, 0)), 0, 7),
+    Asked(Ask::Gate(Gate::Cnot, &[5, 5]), Err((45, 0)), 0, 7),
+    Asked(Ask::Clear, Ok(Told::Done), 0, 7),
+    Asked(Ask::Prepare(true), Ok(Told::Handle(0)), 0b1, 6),
+    Asked(Ask::Gate(Gate::Cnot, &[0, 0]), Err((46, 0)), 0b1, 6),
+    Asked(Ask::Gate(Gate::Toffoli, &[0, 0, 5]), Err((45, 0)), 0b1, 6),
+    Asked(Ask::Gate(Gate::Toffoli, &[0, 0]), Err((44, 0)), 0b1, 6),
+    Asked(Ask::Gate(Gate::H, &[0, 0]), Err((44, 0)), 0b1, 6),
+    Asked(Ask::Gate(Gate::Cnot, &[0, 255]), Err((45, 0)), 0b1, 6),
+    Asked(Ask::Prepare(false), Ok(Told::Handle(1)), 0b11, 5),
+    Asked(Ask::Gate(Gate::Toffoli, &[1, 0, 1]), Err((46, 0)), 0b11, 5),
+    Asked(Ask::Prepare(true), Err((42, 0)), 0b11, 5),
+    Asked(Ask::Gate(Gate::Swap, &[1, 0]), Ok(Told::Done), 0b11, 4),
+    Asked(Ask::Read(1), Ok(Told::Bit(true)), 0b11, 3),
+    Asked(Ask::LetGo(0), Ok(Told::Done), 0b10, 3),
+    Asked(Ask::Prepare(false), Ok(Told::Handle(0)), 0b11, 2),
+    Asked(Ask::Gate(Gate::Z, &[0]), Ok(Told::Done), 0b11, 1),
+    Asked(Ask::Read(0), Ok(Told::Bit(false)), 0b11, 0),
+    Asked(Ask::Prepare(true), Err((41, 0)), 0b11, 0),
+    Asked(Ask::Gate(Gate::H, &[0]), Err((41, 0)), 0b11, 0),
+    Asked(Ask::Gate(Gate::Cnot, &[]), Err((41, 0)), 0b11, 0),
+    Asked(Ask::Gate(Gate::Cnot, &[9, 9]), Err((41, 0)), 0b11, 0),
+    Asked(Ask::Gate(Gate::Cnot, &[1, 1]), Err((41, 0)), 0b11, 0),
+    Asked(Ask::Read(9), Err((41, 0)), 0b11, 0),
+    Asked(Ask::Read(0), Err((41, 0)), 0b11, 0),
+    Asked(Ask::LetGo(9), Err((45, 0)), 0b11, 0),
+    Asked(Ask::LetGo(0), Ok(Told::Done), 0b10, 0),
+    Asked(Ask::Clear, Ok(Told::Done), 0, 0),
+    Asked(Ask::Prepare(true), Err((41, 0)), 0, 0),
 ];
 
 const UNTOUCHED: Entry = Entry::Read {
@@ -68,20 +68,17 @@ const JOURNAL: [Entry; 9] = [
 // Three pulses, since the journal has no more entries.
 #[rattlefmt::skip]
 const SHORT: &[Asked] = &[
-    Asked(Ask::Prepare(false), Told::Handle(0), 0b1, 2),
-    Asked(Ask::Read(0), Told::Bit(true), 0b1, 1),
-    Asked(Ask::Gate(Gate::T, &[0]), Told::Done, 0b1, 0),
-    Asked(Ask::Read(0), Told::No(41, 0), 0b1, 0),
+    Asked(Ask::Prepare(false), Ok(Told::Handle(0)), 0b1, 2),
+    Asked(Ask::Read(0), Ok(Told::Bit(true)), 0b1, 1),
+    Asked(Ask::Gate(Gate::T, &[0]), Ok(Told::Done), 0b1, 0),
+    Asked(Ask::Read(0), Err((41, 0)), 0b1, 0),
 ];
 
 const OUTCOMES: [u8; 7] = [0, 1, 2, 255, 4, 1, 254];
 
 fn makes_every_gate<R: Register>(rt: &impl Abort, register: &R) {
     for number in 0..8 {
-        let makes = match Gate::from_number(number) {
-            Some(gate) => register.makes(gate),
-            None => false,
-        };
+        let makes = Gate::try_from(number).is_ok_and(|gate| register.makes(gate));
         assert!(rt; makes, "{}", number);
     }
 }
@@ -99,32 +96,6 @@ fn on_tape(
     asks(rt, &mut tape, table)
 }
 
-fn number_of(bit: bool) -> u16 {
-    if bit { 1 } else { 0 }
-}
-
-fn gate_numbers(gate: Gate, on: [u8; 3]) -> [u16; 5] {
-    let [a, b, c] = on;
-    [3, gate.number(), u16::from(a), u16::from(b), u16::from(c)]
-}
-
-// An entry as numbers: which kind it is, and its fields.
-fn numbers(entry: Entry) -> [u16; 5] {
-    match entry {
-        Entry::Empty => [0, 0, 0, 0, 0],
-        Entry::Prepare { handle, bit } => [1, u16::from(handle), number_of(bit), 0, 0],
-        Entry::Read { handle, outcome } => [2, u16::from(handle), number_of(outcome), 0, 0],
-        Entry::Gate { gate, on } => gate_numbers(gate, on),
-    }
-}
-
-fn entries_are(rt: &impl Abort, entries: &[Entry], expected: &[Entry]) {
-    assert_eq!(rt; entries.len(), expected.len());
-    for (pulse, (entry, want)) in entries.iter().zip(expected.iter()).enumerate() {
-        assert_eq!(rt; numbers(*entry), numbers(*want), "{}", pulse);
-    }
-}
-
 #[rattlefmt::skip]
 const SHORT_JOURNAL: [Entry; 3] = [
     Entry::Prepare { handle: 0, bit: false },
@@ -136,43 +107,43 @@ const SHORT_JOURNAL: [Entry; 3] = [
 fn tape(rt: HostRuntime) -> Result<(), Fail> {
     let mut entries = [UNTOUCHED; 9];
     on_tape(&rt, 2, 2, &mut entries, TAPE)?;
-    entries_are(&rt, &entries, &JOURNAL);
+    assert_eq!(rt; entries, JOURNAL);
     let mut few = [UNTOUCHED; 3];
     on_tape(&rt, 99, 32, &mut few, SHORT)?;
-    entries_are(&rt, &few, &SHORT_JOURNAL);
+    assert_eq!(rt; few, SHORT_JOURNAL);
     Ok(())
 }
 
 // A level of capacity 3 with 8 pulses: 43 before 44, 45 and 46, and 41 before it.
 #[rattlefmt::skip]
 const LEVEL: &[Asked] = &[
-    Asked(Ask::Gate(Gate::H, &[]), Told::No(43, 0), 0, 8),
-    Asked(Ask::Gate(Gate::T, &[9]), Told::No(43, 0), 0, 8),
-    Asked(Ask::Gate(Gate::X, &[]), Told::No(44, 0), 0, 8),
-    Asked(Ask::Gate(Gate::X, &[40]), Told::No(45, 0), 0, 8),
-    Asked(Ask::Gate(Gate::Swap, &[7, 7]), Told::No(45, 0), 0, 8),
-    Asked(Ask::Read(0), Told::No(45, 0), 0, 8),
-    Asked(Ask::LetGo(0), Told::No(45, 0), 0, 8),
-    Asked(Ask::Prepare(true), Told::Handle(0), 0b1, 7),
-    Asked(Ask::Gate(Gate::Z, &[0]), Told::No(43, 0), 0b1, 7),
-    Asked(Ask::Gate(Gate::S, &[0, 0]), Told::No(43, 0), 0b1, 7),
-    Asked(Ask::Gate(Gate::Swap, &[0, 0]), Told::No(46, 0), 0b1, 7),
-    Asked(Ask::Gate(Gate::Toffoli, &[0, 0, 1]), Told::No(45, 0), 0b1, 7),
-    Asked(Ask::Read(0), Told::Bit(true), 0b1, 6),
-    Asked(Ask::Prepare(false), Told::Handle(1), 0b11, 5),
-    Asked(Ask::Read(1), Told::Bit(false), 0b11, 4),
-    Asked(Ask::LetGo(0), Told::Done, 0b10, 4),
-    Asked(Ask::LetGo(0), Told::No(45, 0), 0b10, 4),
-    Asked(Ask::Prepare(false), Told::Handle(2), 0b110, 3),
-    Asked(Ask::Prepare(false), Told::Handle(0), 0b111, 2),
-    Asked(Ask::Prepare(true), Told::No(42, 0), 0b111, 2),
-    Asked(Ask::Read(0), Told::Bit(false), 0b111, 1),
-    Asked(Ask::Gate(Gate::X, &[0]), Told::Done, 0b111, 0),
-    Asked(Ask::Gate(Gate::H, &[0]), Told::No(41, 0), 0b111, 0),
-    Asked(Ask::Gate(Gate::X, &[]), Told::No(41, 0), 0b111, 0),
-    Asked(Ask::Prepare(true), Told::No(41, 0), 0b111, 0),
-    Asked(Ask::Read(31), Told::No(41, 0), 0b111, 0),
-    Asked(Ask::Clear, Told::Done, 0, 0),
+    Asked(Ask::Gate(Gate::H, &[]), Err((43, 0)), 0, 8),
+    Asked(Ask::Gate(Gate::T, &[9]), Err((43, 0)), 0, 8),
+    Asked(Ask::Gate(Gate::X, &[]), Err((44, 0)), 0, 8),
+    Asked(Ask::Gate(Gate::X, &[40]), Err((45, 0)), 0, 8),
+    Asked(Ask::Gate(Gate::Swap, &[7, 7]), Err((45, 0)), 0, 8),
+    Asked(Ask::Read(0), Err((45, 0)), 0, 8),
+    Asked(Ask::LetGo(0), Err((45, 0)), 0, 8),
+    Asked(Ask::Prepare(true), Ok(Told::Handle(0)), 0b1, 7),
+    Asked(Ask::Gate(Gate::Z, &[0]), Err((43, 0)), 0b1, 7),
+    Asked(Ask::Gate(Gate::S, &[0, 0]), Err((43, 0)), 0b1, 7),
+    Asked(Ask::Gate(Gate::Swap, &[0, 0]), Err((46, 0)), 0b1, 7),
+    Asked(Ask::Gate(Gate::Toffoli, &[0, 0, 1]), Err((45, 0)), 0b1, 7),
+    Asked(Ask::Read(0), Ok(Told::Bit(true)), 0b1, 6),
+    Asked(Ask::Prepare(false), Ok(Told::Handle(1)), 0b11, 5),
+    Asked(Ask::Read(1), Ok(Told::Bit(false)), 0b11, 4),
+    Asked(Ask::LetGo(0), Ok(Told::Done), 0b10, 4),
+    Asked(Ask::LetGo(0), Err((45, 0)), 0b10, 4),
+    Asked(Ask::Prepare(false), Ok(Told::Handle(2)), 0b110, 3),
+    Asked(Ask::Prepare(false), Ok(Told::Handle(0)), 0b111, 2),
+    Asked(Ask::Prepare(true), Err((42, 0)), 0b111, 2),
+    Asked(Ask::Read(0), Ok(Told::Bit(false)), 0b111, 1),
+    Asked(Ask::Gate(Gate::X, &[0]), Ok(Told::Done), 0b111, 0),
+    Asked(Ask::Gate(Gate::H, &[0]), Err((41, 0)), 0b111, 0),
+    Asked(Ask::Gate(Gate::X, &[]), Err((41, 0)), 0b111, 0),
+    Asked(Ask::Prepare(true), Err((41, 0)), 0b111, 0),
+    Asked(Ask::Read(31), Err((41, 0)), 0b111, 0),
+    Asked(Ask::Clear, Ok(Told::Done), 0, 0),
 ];
 
 // A gate on three bits: for each number that they spell, handle 0 lowest, the number after it.
@@ -192,7 +163,7 @@ const TRUTH: &[(Gate, &[u8], [u8; 8])] = &[
 fn level(rt: HostRuntime) -> Result<(), Fail> {
     asks(&rt, &mut Level::new(3, 8), LEVEL)?;
     for (gate, on, outputs) in TRUTH {
-        for input in 0..8u8 {
+        for (input, output) in outputs.iter().enumerate() {
             let mut level = Level::new(3, 100);
             assert!(rt; level.makes(*gate));
             for place in 0..3u8 {
@@ -200,11 +171,11 @@ fn level(rt: HostRuntime) -> Result<(), Fail> {
             }
             level.gate(*gate, *on)?;
             for place in 0..3u8 {
-                let due = (outputs[input as usize] >> place) & 1 == 1;
+                let due = (*output >> place) & 1 == 1;
                 assert_eq!(rt; level.read(place)?, due, "{gate:?} of {input}");
                 assert_eq!(rt; level.read(place)?, due, "read again");
             }
-            holds(&rt, &level, 0b111, 90, input as usize)?;
+            holds(&rt, &level, 0b111, 90, input)?;
         }
     }
     let level = Level::new(3, 1);

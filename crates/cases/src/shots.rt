@@ -6,15 +6,13 @@ use std::test::Fail;
 
 // A stored program with a blank for byte 9 and a stroke for byte 10.
 fn stored(heap: Global, text: &str) -> Result<Vec<u8>, AllocError> {
-    let mut bytes = Vec::new(heap);
-    for byte in text.as_bytes() {
-        bytes.push(match *byte {
+    text.bytes()
+        .map(|byte| match byte {
             b' ' => b'\t',
             b'/' => b'\n',
             other => other,
-        })?;
-    }
-    Ok(bytes)
+        })
+        .collect(heap)
 }
 
 // A program and its listing.
