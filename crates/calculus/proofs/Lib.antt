@@ -2,12 +2,14 @@ pub mod Canonical
 pub mod Determinism
 pub mod Duplicable
 pub mod Erasure
+pub mod Failing
 pub mod Lemmas
 pub mod Narrowing
 pub mod Preservation
 pub mod ReadTerms
 pub mod ReadTypes
 pub mod Reading
+pub mod Reaching
 pub mod Requests
 pub mod Runs
 pub mod Samples

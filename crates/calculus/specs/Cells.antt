@@ -43,6 +43,10 @@ var_argument (held h) = h
 abbrev pub cell_of : ℕ → ℕ → ℕ → TermCell
 cell_of op argument claim = record { op = op; argument = argument; claim = claim }
 
+-- a new cell, and what is read past the last one
+abbrev pub blank : TermCell
+blank = record { op = 0; argument = 0; claim = 0 }
+
 -- a term's cells, where each node's claim is a place in a type table: s, l, a, p, i, d besides the leaves
 abbrev pub placed_cells : Term ℕ → List TermCell
 placed_cells (var c x) = cell_of (var_op x) (var_argument x) c ∷ []

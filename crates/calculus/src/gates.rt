@@ -4,17 +4,17 @@ ghost use Rattle.std.specs.Prelude.{◌≡◌};
 ghost use Rattle.std.specs.Result.{result_ok};
 ghost use Rattle.calculus.specs.Gates.{number_of, operands_of, gate_of};
 
-/// A gate of the register.
+/// A gate of the register, with its number.
 #[derive(Clone, Copy, PartialEq, Eq, Debug, Drop)]
 pub enum Gate {
-    H,
-    X,
-    Z,
-    S,
-    T,
-    Cnot,
-    Swap,
-    Toffoli,
+    H = 0,
+    X = 1,
+    Z = 2,
+    S = 3,
+    T = 4,
+    Cnot = 5,
+    Swap = 6,
+    Toffoli = 7,
 }
 
 impl Gate {
@@ -35,18 +35,21 @@ impl From<Gate> for u16 {
     ghost from_gives = { λ gate number. number ≡ number_of gate };
 
     fn from(gate: Gate) -> u16 {
-        match gate {
-            Gate::H => 0,
-            Gate::X => 1,
-            Gate::Z => 2,
-            Gate::S => 3,
-            Gate::T => 4,
-            Gate::Cnot => 5,
-            Gate::Swap => 6,
-            Gate::Toffoli => 7,
-        }
+        gate as u16
     }
 }
+
+// Each gate at the place of its number.
+const GATES: [Gate; 8] = [
+    Gate::H,
+    Gate::X,
+    Gate::Z,
+    Gate::S,
+    Gate::T,
+    Gate::Cnot,
+    Gate::Swap,
+    Gate::Toffoli,
+];
 
 /// A number from 8 on, which names no gate.
 #[derive(Clone, Copy, PartialEq, Eq, Debug, Drop)]
@@ -59,16 +62,6 @@ impl TryFrom<u16> for Gate {
     ghost try_from_gives = { λ number answer. result_ok answer ≡ gate_of number };
 
     fn try_from(number: u16) -> Result<Gate, UnknownGate> {
-        match number {
-            0 => Ok(Gate::H),
-            1 => Ok(Gate::X),
-            2 => Ok(Gate::Z),
-            3 => Ok(Gate::S),
-            4 => Ok(Gate::T),
-            5 => Ok(Gate::Cnot),
-            6 => Ok(Gate::Swap),
-            7 => Ok(Gate::Toffoli),
-            _ => Err(UnknownGate),
-        }
+        GATES.get(number as usize).copied().ok_or(UnknownGate)
     }
 }

@@ -6,12 +6,12 @@ ghost use Rattle.registers.specs.Answers.{number_of};
 /// Why a register refuses a call, in the order of the numbers.
 #[derive(Clone, Copy, PartialEq, Eq, Debug, Drop)]
 pub enum RegisterReason {
-    NoPulses,
-    Full,
-    GateNotMade,
-    WrongCount,
-    NotLive,
-    GivenTwice,
+    NoPulses = 41,
+    Full = 42,
+    GateNotMade = 43,
+    WrongCount = 44,
+    NotLive = 45,
+    GivenTwice = 46,
 }
 
 impl RegisterReason {
@@ -19,14 +19,7 @@ impl RegisterReason {
     pub fn number(self) -> u16
         ensures { result ≡ number_of self }
     {
-        match self {
-            RegisterReason::NoPulses => 41,
-            RegisterReason::Full => 42,
-            RegisterReason::GateNotMade => 43,
-            RegisterReason::WrongCount => 44,
-            RegisterReason::NotLive => 45,
-            RegisterReason::GivenTwice => 46,
-        }
+        self as u16
     }
 
     /// Refuses for this reason where the test holds, as the outermost register.

@@ -7,7 +7,7 @@ ghost use Rattle.registers.specs.Bits.{Bits, zeros, bit_of, flipped, exchanged, 
 
 use crate::fault::RegisterFault;
 use crate::handles::Handles;
-use crate::places::{holds, operand, put};
+use crate::places::{holds, operands, put};
 use crate::register::Register;
 use calculus::{Gate, HANDLES};
 
@@ -36,9 +36,7 @@ impl Level {
 fn apply(bits: &mut [bool], gate: Gate, on: &[u8])
     ensures { bits.new ≡ bits_gated bits.old gate on.now }
 {
-    let first = operand(on, 0);
-    let second = operand(on, 1);
-    let third = operand(on, 2);
+    let [first, second, third] = operands(on);
     match gate {
         Gate::X => flip_if(bits, true, first),
         Gate::Cnot => flip_if(bits, holds(bits, first), second),

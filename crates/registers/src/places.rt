@@ -1,9 +1,10 @@
 //! Tables of truth values by handle, and lists of handles.
 
-ghost use Rattle.std.specs.Prelude.{◌≡◌, ◌<◌, ◌≤◌, false, not, length, position, MatchOption, slice_index, slice_index_or, slice_set};
+ghost use Rattle.std.specs.Prelude.{◌≡◌, ◌<◌, ◌≤◌, false, not, length, position, MatchOption, slice_index_or, slice_set};
 ghost use Rattle.registers.specs.Meaning.{counted};
 ghost use Rattle.registers.specs.Answers.{distinct};
 ghost use Rattle.registers.specs.Handles.{free_from};
+ghost use Rattle.registers.specs.Journal.{padded};
 
 /// What the table has for a handle, false past its end.
 pub fn holds(table: &[bool], handle: u8) -> bool
@@ -45,11 +46,12 @@ pub fn free_from(table: &[bool], start: usize) -> Option<usize>
     Some(start + after)
 }
 
-/// The operand at a place of a gate's list, 0 past its end.
-pub fn operand(on: &[u8], place: usize) -> u8
-    ensures { result ≡ slice_index on.now place }
+/// The operands of a gate in front, 0 after the last.
+pub fn operands(on: &[u8]) -> [u8; 3]
+    ensures { result ≡ padded on.now }
 {
-    on.get(place).copied().unwrap_or(0)
+    let operand = |place: usize| on.get(place).copied().unwrap_or(0);
+    [operand(0), operand(1), operand(2)]
 }
 
 /// Whether no handle stands twice in the list.

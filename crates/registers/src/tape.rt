@@ -8,7 +8,7 @@ ghost use Rattle.registers.specs.Journal.{Reel, filled, pulses_left, outcome_nex
 use crate::fault::RegisterFault;
 use crate::handles::Handles;
 use crate::journal::Entry;
-use crate::places::operand;
+use crate::places::operands;
 use crate::register::Register;
 use calculus::Gate;
 
@@ -99,7 +99,7 @@ impl<'a> Register for Tape<'a> {
 
     fn gate(&mut self, gate: Gate, on: &[u8]) -> Result<(), RegisterFault> {
         self.handles.allow_gate(self.pulses(), true, gate, on)?;
-        let on = [operand(on, 0), operand(on, 1), operand(on, 2)];
+        let on = operands(on);
         self.spend(Entry::Gate { gate, on });
         Ok(())
     }

@@ -3,7 +3,7 @@
 
 ghost use Rattle.std.specs.Prelude.{◌≡◌, ℕ, ◌-◌, ◌≤◌, Bool, ◌++◌, length, take, drop};
 ghost use Rattle.trees.specs.Failing.{first_failing};
-ghost use Rattle.trees.specs.Reach.{ends, copied_count, fronted, ReachLaws};
+ghost use Rattle.trees.specs.Reach.{ends, not_one_tree, copied_count, fronted, ReachLaws};
 ghost use Rattle.trees.specs.Whole.{counted};
 
 /// A cell of a prefix tree.
@@ -28,6 +28,16 @@ pub fn reach<T: Cell>(cells: &[T], at: usize) -> Option<usize>
         }
     }
     None
+}
+
+/// Where the cells are not exactly one tree: at 0 where it is unfinished, else one past its end.
+pub fn not_one_tree<T: Cell>(cells: &[T]) -> Option<usize>
+    ensures { result ≡ not_one_tree T.arity cells.now }
+{
+    let Some(end) = reach(cells, 0) else {
+        return Some(0);
+    };
+    (end != cells.len()).then_some(end)
 }
 
 /// Copies the tree at `at` to the front of a table, whose rest stays, and answers its number of cells;
@@ -59,11 +69,7 @@ pub fn count<T: Cell>(cells: &[T]) -> Option<usize>
 {
     let mut trees: usize = 0;
     for cell in cells.iter().rev() {
-        let parts = cell.parts();
-        if parts > trees {
-            return None;
-        }
-        trees = trees - parts + 1;
+        trees = trees.checked_sub(cell.parts())? + 1;
     }
     Some(trees)
 }
