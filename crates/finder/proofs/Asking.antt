@@ -6,12 +6,11 @@ use Rattle.calculus.specs.declared.gates.Gate.{Gate}
 use Rattle.calculus.specs.declared.gates.Gate.TheVariants.{H, X, Z, S, Cnot, Swap}
 use Rattle.calculus.specs.declared.gates.Gate.TheVariants.{T as gate_t}
 use Rattle.calculus.specs.Terms.{gate, held, Running, var, const, app, pair, size}
-use Rattle.calculus.specs.Cells.{cell_of, running_cells, unclaimed}
+use Rattle.calculus.specs.Cells.{cell_of, running_cells, unclaimed, blank}
 use Rattle.calculus.specs.Reduction.{Operands, on_h, on_x, on_z, on_s, on_t, on_cnot, on_swap, on_toffoli, Effect, silent, prepares, reads, applies, Reduces, apply_function, open_pair, take_then, take_else, prepare_qubit, read_qubit, apply_gate, in_argument, in_function, in_left, in_right, in_condition, in_pair}
-use Rattle.finder.specs.Finding.{blank}
 use Rattle.finder.specs.Laws.{Means, op_at, argument_at, qubit_cells, Asks}
 use Rattle.finder.specs.Steps.{step_rule, step_cell}
-use Rattle.finder.specs.declared.works.Rule.{Rule}
+use Rattle.finder.specs.declared.rules.Rule.{Rule}
 use Rattle.finder.proofs.Places.{StandsAt, left_part, right_part, test_part}
 
 -- cells of a table by those from a place on

@@ -1,25 +1,25 @@
 -- The running term that cells mean, whatever they claim.
-use Rattle.std.proofs.Common.{Err, Option, Result, ltb, ◌≡◌, ℕ, zero, suc, ◌+◌, ◌≤◌, true, false, cond, T, List, [], ◌∷◌, ◌++◌, map, length, Some, None, Ok, sym, refl, ap, ◌∙◌, ap₂, arith}
+use Rattle.std.proofs.Common.{Err, Option, Result, ◌≡◌, ℕ, zero, suc, ◌+◌, ◌≤◌, true, false, cond, T, List, [], ◌∷◌, ◌++◌, map, length, Some, Ok, sym, refl, ap, ◌∙◌, ap₂, arith}
 use Rattle.std.specs.List.{flat_map}
 use Rattle.std.proofs.lemmas.Bool.{le-ltb}
 use Rattle.std.proofs.lemmas.List.{append-nil, length-map}
 use Rattle.trees.specs.Failing.{first_failing}
 use Rattle.trees.specs.Reach.{ends}
+use Rattle.trees.proofs.One.{ends_one}
 use Rattle.calculus.specs.declared.cells.TermCell.{TermCell}
 use Rattle.calculus.specs.Gates.{gate_of}
 use Rattle.calculus.specs.Letters.{Letter, at_v, at_q, at_g, at_0, at_1, at_m, at_n, at_s, at_l, at_a, at_p, at_d, at_i, other, letter, allowed, arity}
 use Rattle.calculus.specs.Terms.{bit_of, meas, new, gate, bound, held, Term, var, const, star, lam, app, pair, if_then_else, let_pair, Running, size, reclaimed, erased}
 use Rattle.calculus.specs.Cells.{cell_of, placed_cells, running_cells, unclaimed}
 use Rattle.calculus.specs.Reading.{top, rest, or_toffoli, no_term, read_term, terms_of, term_at, every}
-use Rattle.calculus.proofs.Reading.{T_true, both}
+use Rattle.calculus.proofs.Failing.{none_fails}
 use Rattle.calculus.proofs.ReadTerms.{read_back, written, cells_counted}
-use Rattle.finder.specs.Finding.{tested, one_tree, past_letters, past_tests, answer, told}
+use Rattle.finder.specs.Finding.{tested, past_tests, answer, told}
 use Rattle.finder.specs.Laws.{Means}
-use Rattle.finder.specs.declared.works.Rule.{Rule}
-use Rattle.finder.specs.declared.works.FindFault.{FindFault}
-use Rattle.finder.specs.declared.works.FindFault.TheVariants.{TooManyCells}
+use Rattle.finder.specs.declared.rules.Rule.{Rule}
+use Rattle.finder.specs.declared.faults.FindFault.{FindFault}
 use Rattle.finder.specs.Search.{found}
-use Rattle.finder.proofs.Standing.{reaches}
+use Rattle.calculus.proofs.Reaching.{reaches}
 use Rattle.finder.proofs.Tests.{passed}
 
 erased_back : (m : Running) → erased {C = ℕ} (reclaimed (λ c. 0) m) ≡ m
@@ -95,12 +95,6 @@ ends_alike zero cs at = refl
 ends_alike (suc k) [] at = refl
 ends_alike (suc k) (c ∷ cs) at = ends_alike (k + arity c) cs (suc at)
 
-none_failing : (cs : List TermCell) (k : ℕ) → T (every allowed cs) → first_failing allowed cs k ≡ None
-none_failing [] k h = refl
-none_failing (c ∷ cs) k h =
-    let (p, q) = both (allowed c) (every allowed cs) h in
-    ap (λ b. cond b (first_failing allowed cs (k + 1)) (Some k)) (T_true (allowed c) p) ∙ none_failing cs (k + 1) q
-
 failing_alike : (cs : List TermCell) (k : ℕ) → first_failing allowed (unclaimed cs) k ≡ first_failing allowed cs k
 failing_alike [] k = refl
 failing_alike (c ∷ cs) k = ap (λ r. cond (allowed c) r (Some k)) (failing_alike cs (k + 1))
@@ -110,13 +104,8 @@ module _ (cs : List TermCell) where
   pub as_many : length (unclaimed cs) ≡ length cs
   as_many = length-map cs (λ c. cell_of c.op c.argument 0)
 
-  letters_alike : (r : Option ℕ) → past_letters (unclaimed cs) r ≡ past_letters cs r
-  letters_alike None = ap₂ one_tree as_many (ends_alike 1 cs 0)
-  letters_alike (Some k) = refl
-
   tested_alike : tested (unclaimed cs) ≡ tested cs
-  tested_alike =
-      ap₂ (λ n r. cond (ltb 1024 n) (Err (TooManyCells 1024)) r) as_many (ap (past_letters (unclaimed cs)) (failing_alike cs 0) ∙ letters_alike (first_failing allowed cs 0))
+  tested_alike = simp (as_many, failing_alike cs 0, ends_alike 1 cs 0)
 
   tests_alike : (r : Result (Unit {0}) FindFault) → past_tests (unclaimed cs) r ≡ past_tests cs r
   tests_alike (Ok u) = ap (λ m. told (found 0 m)) (sym (tops (terms_of cs) (terms_of (unclaimed cs)) (terms_alike cs)))
@@ -143,7 +132,8 @@ module _ (cs : List TermCell) (m : Running) (h : Means cs m) where
   passes =
       let long : length cs ≡ size zeroed = sym (as_many cs) ∙ ap length h.written ∙ cells_counted zeroed in
       let end : ends arity 1 cs 0 ≡ Some (0 + size zeroed) = sym (ends_alike 1 cs 0) ∙ ap (λ ds. ends arity 1 ds 0) joined ∙ reaches zeroed [] 0 0 in
-      simp (le-ltb 1024 (length cs) h.few, none_failing cs 0 h.each_allowed, end, le-ltb (0 + size zeroed) (length cs) (omega arith))
+      let all : 0 + size zeroed ≡ length cs = omega arith in
+      simp (le-ltb 1024 (length cs) h.few, none_fails allowed cs 0 h.each_allowed, ends_one arity cs (end ∙ ap Some all))
 
   -- so the answer is that of the term
   pub answered : answer cs ≡ told (found 0 m)

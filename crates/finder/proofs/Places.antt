@@ -10,7 +10,7 @@ use Rattle.calculus.proofs.Reading.{after}
 use Rattle.calculus.proofs.ReadTerms.{cells_counted}
 use Rattle.finder.specs.Due.{Due, due_application, due_let, due_condition, of_argument, of_function, of_left, of_right, of_test, of_pair}
 use Rattle.finder.specs.Steps.{step_rule, step_cell}
-use Rattle.finder.proofs.Standing.{size_reclaimed}
+use Rattle.calculus.proofs.Reaching.{size_reclaimed}
 
 pub counted : (m : Running) → length (running_cells m) ≡ size m
 counted m = cells_counted (reclaimed (λ c. 0) m) ∙ size_reclaimed (λ c. 0) m

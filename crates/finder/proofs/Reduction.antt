@@ -4,12 +4,14 @@ use Rattle.calculus.specs.declared.cells.TermCell.{TermCell}
 use Rattle.calculus.specs.Terms.{Running}
 use Rattle.calculus.specs.Reduction.{Value, Effect, Reduces}
 use Rattle.finder.specs.Due.{Due}
+use Rattle.finder.specs.Faults.{fault}
 use Rattle.finder.specs.Finding.{answer, told}
 use Rattle.finder.specs.Laws.{Means, SearchIsReduction}
 use Rattle.finder.specs.Search.{Found, found}
 use Rattle.finder.specs.Steps.{step_rule, step_cell}
-use Rattle.finder.specs.declared.works.Rule.{Rule}
-use Rattle.finder.specs.declared.works.FindFault.TheVariants.{NoRule}
+use Rattle.finder.specs.declared.rules.Rule.{Rule}
+use Rattle.finder.specs.declared.faults.FindFault.{FindFault}
+use Rattle.finder.specs.declared.faults.FindReason.TheVariants.{NoRule}
 use Rattle.finder.proofs.Asking.{asks}
 use Rattle.finder.proofs.Meaning.{as_many, claims, meant, passes, answered, answered_passes}
 use Rattle.finder.proofs.Places.{redex, stands, due_within}
@@ -26,10 +28,10 @@ told_rule None r k e = cc
 told_rule (Some (j, Some s)) r k e = let p : ◌≡◌ {A = Rule × ℕ} (s, j) (r, k) = cc in ap (λ t. due t.1 (Some t.0)) p
 told_rule (Some (j, None)) r k e = cc
 
-told_stuck : (w : Found) (k : ℕ) → told w ≡ Err (NoRule k) → w ≡ due k None
+told_stuck : (w : Found) (k : ℕ) → told w ≡ Err (fault NoRule k) → w ≡ due k None
 told_stuck None k e = cc
 told_stuck (Some (j, Some r)) k e = cc
-told_stuck (Some (j, None)) k e = let p : j ≡ k = cc in ap (λ i. due i None) p
+told_stuck (Some (j, None)) k e = let p : fault NoRule j ≡ fault NoRule k = cc in ap (λ (f : FindFault). due f.cell None) p
 
 module _ (cs : List TermCell) (m : Running) (h : Means cs m) where
   is_value : (answer cs ≡ Ok None) ↔ Value m
@@ -51,24 +53,24 @@ module _ (cs : List TermCell) (m : Running) (h : Means cs m) where
           let z : 0 + step_cell d ≡ k = omega arith in
           answered cs m h ∙ ap told (step_found d 0) ∙ ap₂ (λ (s : Rule) (j : ℕ). Ok (Some (s, j))) p z
 
-  is_stuck : (k : ℕ) → (answer cs ≡ Err (NoRule k)) ↔ ((p : Running) × Due m k p × Rests p)
+  is_stuck : (k : ℕ) → (answer cs ≡ Err (fault NoRule k)) ↔ ((p : Running) × Due m k p × Rests p)
   is_stuck k = (there, back)
     where
-      there : answer cs ≡ Err (NoRule k) → (p : Running) × Due m k p × Rests p
+      there : answer cs ≡ Err (fault NoRule k) → (p : Running) × Due m k p × Rests p
       there f =
           let (j, p, d, s, q) = subst (Right m 0) (told_stuck (found 0 m) k (sym (answered cs m h) ∙ f)) (right m 0) in
           let z : j ≡ k = omega arith in
           (p, subst (λ i. Due m i p) z d, s)
 
-      back : (p : Running) × Due m k p × Rests p → answer cs ≡ Err (NoRule k)
+      back : (p : Running) × Due m k p × Rests p → answer cs ≡ Err (fault NoRule k)
       back (p, d, s) =
           let z : 0 + k ≡ k = omega arith in
-          answered cs m h ∙ ap told (due_found d s 0) ∙ ap (λ (j : ℕ). Err (NoRule j)) z
+          answered cs m h ∙ ap told (due_found d s 0) ∙ ap (λ (j : ℕ). Err (fault NoRule j)) z
 
-  goes_nowhere : ((k : ℕ) × (answer cs ≡ Err (NoRule k))) ↔ ((Value m → ⊥) × Rests m)
+  goes_nowhere : ((k : ℕ) × (answer cs ≡ Err (fault NoRule k))) ↔ ((Value m → ⊥) × Rests m)
   goes_nowhere = (there, λ g. back (found 0 m) refl g)
     where
-      there : (k : ℕ) × (answer cs ≡ Err (NoRule k)) → (Value m → ⊥) × Rests m
+      there : (k : ℕ) × (answer cs ≡ Err (fault NoRule k)) → (Value m → ⊥) × Rests m
       there (k, f) = (no_value, no_step)
         where
           no_value : Value m → ⊥
@@ -77,7 +79,7 @@ module _ (cs : List TermCell) (m : Running) (h : Means cs m) where
           no_step : Rests m
           no_step e n d = let g = (is_step (step_rule d) (step_cell d)).1 (e, n, d, refl, refl) in let z : ◌≡◌ {A = ℕ} 0 1 = cc in omega arith
 
-      back : (w : Found) → found 0 m ≡ w → (Value m → ⊥) × Rests m → (k : ℕ) × (answer cs ≡ Err (NoRule k))
+      back : (w : Found) → found 0 m ≡ w → (Value m → ⊥) × Rests m → (k : ℕ) × (answer cs ≡ Err (fault NoRule k))
       back None p (f, g) = absurd (f (is_value.0 (answered cs m h ∙ ap told p)))
       back (Some (k, Some r)) p (f, g) = let (e, n, d, q, t) = (is_step r k).0 (answered cs m h ∙ ap told p) in absurd (g e n d)
       back (Some (k, None)) p (f, g) = (k, answered cs m h ∙ ap told p)

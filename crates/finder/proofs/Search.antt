@@ -10,8 +10,8 @@ use Rattle.calculus.proofs.Determinism.{operands_value}
 use Rattle.finder.specs.Due.{Due, due_application, due_let, due_condition, of_argument, of_function, of_left, of_right, of_test, of_pair}
 use Rattle.finder.specs.Search.{is_bit, is_qubit, is_pair_of, takes, applied, branched, opened, Found, found}
 use Rattle.finder.specs.Steps.{step_rule, step_cell}
-use Rattle.finder.specs.declared.works.Rule.{Rule}
-use Rattle.finder.specs.declared.works.Rule.TheVariants.{Function, Pair, Then, Else, Prepare, Read, Gates}
+use Rattle.finder.specs.declared.rules.Rule.{Rule}
+use Rattle.finder.specs.declared.rules.Rule.TheVariants.{Function, Pair, Then, Else, Prepare, Read, Gates}
 
 pub value_found : {m : Running} → Value m → (at : ℕ) → found at m ≡ None
 value_found value_var at = refl

@@ -7,11 +7,10 @@ use Rattle.calculus.specs.declared.gates.Gate.{Gate}
 use Rattle.calculus.specs.declared.gates.Gate.TheVariants.{H, X, Z, S, T, Cnot, Swap, Toffoli}
 use Rattle.calculus.specs.Gates.{number_of}
 use Rattle.calculus.specs.Terms.{bit_of, meas, new, gate, bound, held, Term, var, const, star, lam, app, pair, if_then_else, let_pair, Running, erased}
-use Rattle.calculus.specs.Cells.{placed_cells}
-use Rattle.finder.specs.Finding.{blank}
+use Rattle.calculus.specs.Cells.{placed_cells, blank}
 use Rattle.finder.specs.Search.{is_bit, is_qubit, is_pair_of, takes, applied, branched, opened}
 use Rattle.finder.specs.Words.{spelt, operand_word, applied_of, branched_of, opened_of}
-use Rattle.finder.specs.declared.works.Rule.TheVariants.{Prepare, Read, Gates}
+use Rattle.finder.specs.declared.rules.Rule.TheVariants.{Prepare, Read, Gates}
 
 and_true : (b : Bool) → (b && true) ≡ b
 and_true false = refl

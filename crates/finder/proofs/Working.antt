@@ -3,11 +3,13 @@ use Rattle.std.proofs.Common.{◌≡◌, ℕ, ◌+◌, ◌<◌, ◌≤◌, List,
 use Rattle.std.proofs.lemmas.List.{get_or-drop}
 use Rattle.std.specs.Option.{option_or, MatchOption}
 use Rattle.trees.specs.Reach.{ends}
+use Rattle.calculus.specs.Cells.{blank}
 use Rattle.calculus.specs.declared.cells.TermCell.{TermCell}
 use Rattle.calculus.specs.Letters.{letter, parts_of, arity}
 use Rattle.calculus.specs.Terms.{Term, size, erased}
 use Rattle.calculus.specs.Reading.{term_at, TermsStand}
-use Rattle.finder.specs.Finding.{end_or, blank}
+use Rattle.calculus.proofs.Reaching.{size_reclaimed}
+use Rattle.finder.specs.Finding.{end_or}
 use Rattle.finder.specs.Search.{applied, branched, opened, Found, found}
 use Rattle.finder.specs.Words.{applied_of, branched_of, opened_of}
 use Rattle.finder.proofs.Spelling.{head, applied_cells, branched_cells, opened_cells}
@@ -94,7 +96,7 @@ module _ (cs : List TermCell) (stand : TermsStand cs) where
         let h : Stands r.0 x ms = subst (λ j. Stands j x ms) (sym i) k in
         let (j, v) = worked r.0 x ms s h q in
         let rule = applied_at (at + 1) r.0 f x (x ∷ ms) ms g h in
-        let z = standing.size_reclaimed (λ c. tt) f in
+        let z = size_reclaimed (λ c. tt) f in
         let place : found r.0 (erased x) ≡ found (at + 1 + size (erased f)) (erased x) = ap (λ d. found d (erased x)) (i ∙ ap (λ d. at + 1 + d) (sym z)) in
         works at _ ms s.0 w e (omega arith, t ∙ cc)
 
@@ -105,7 +107,7 @@ module _ (cs : List TermCell) (stand : TermsStand cs) where
         let k = standing.next_terms cs stand (at + 1) f (x ∷ ms) g in
         let h : Stands r.0 x ms = subst (λ j. Stands j x ms) (sym i) k in
         let (j, v) = worked r.0 x ms s h q in
-        let z = standing.size_reclaimed (λ c. tt) f in
+        let z = size_reclaimed (λ c. tt) f in
         let place : found r.0 (erased x) ≡ found (at + 1 + size (erased f)) (erased x) = ap (λ d. found d (erased x)) (i ∙ ap (λ d. at + 1 + d) (sym z)) in
         works at _ ms s.0 w e (omega arith, t ∙ cc)
 

@@ -7,15 +7,16 @@ use Rattle.calculus.specs.declared.gates.Gate.TheVariants.{T as gate_t}
 use Rattle.calculus.specs.Gates.{number_of}
 use Rattle.calculus.specs.Letters.{allowed}
 use Rattle.calculus.specs.Terms.{bit_of, Running}
-use Rattle.calculus.specs.Cells.{const_op, running_cells, unclaimed}
+use Rattle.calculus.specs.Cells.{const_op, running_cells, unclaimed, blank}
 use Rattle.calculus.specs.Reading.{every}
 use Rattle.calculus.specs.Reduction.{Value, Effect, silent, prepares, reads, applies, Reduces}
 use Rattle.finder.specs.Due.{Due}
-use Rattle.finder.specs.Finding.{tested, answer, blank}
+use Rattle.finder.specs.Faults.{fault}
+use Rattle.finder.specs.Finding.{tested, answer}
 use Rattle.finder.specs.Steps.{step_rule, step_cell}
-use Rattle.finder.specs.declared.works.Rule.{Rule}
-use Rattle.finder.specs.declared.works.Rule.TheVariants.{Function, Pair, Then, Else, Prepare, Read, Gates}
-use Rattle.finder.specs.declared.works.FindFault.TheVariants.{NoRule}
+use Rattle.finder.specs.declared.rules.Rule.{Rule}
+use Rattle.finder.specs.declared.rules.Rule.TheVariants.{Function, Pair, Then, Else, Prepare, Read, Gates}
+use Rattle.finder.specs.declared.faults.FindReason.TheVariants.{NoRule}
 
 -- The cells are those of the running term but for their claims, each allowed, and not too many.
 pub record Means (cs : List TermCell) (m : Running) : Type 0 where
@@ -69,7 +70,7 @@ pub record SearchIsReduction : Type 0 where
   pub asks : (cs : List TermCell) (m n : Running) (e : Effect) → Means cs m → (d : Reduces m e n) → Asks cs (step_rule d) (step_cell d) e
   -- no rule is found exactly at the cell of a due part that takes no step
   pub stuck : (cs : List TermCell) (m : Running) (k : ℕ) → Means cs m
-      → (answer cs ≡ Err (NoRule k)) ↔ ((p : Running) × Due m k p × ((e : Effect) (n : Running) → Reduces p e n → ⊥))
+      → (answer cs ≡ Err (fault NoRule k)) ↔ ((p : Running) × Due m k p × ((e : Effect) (n : Running) → Reduces p e n → ⊥))
   -- so exactly for a term that is no value and takes no step
   pub nowhere : (cs : List TermCell) (m : Running) → Means cs m
-      → ((k : ℕ) × (answer cs ≡ Err (NoRule k))) ↔ ((Value m → ⊥) × ((e : Effect) (n : Running) → Reduces m e n → ⊥))
+      → ((k : ℕ) × (answer cs ≡ Err (fault NoRule k))) ↔ ((Value m → ⊥) × ((e : Effect) (n : Running) → Reduces m e n → ⊥))

@@ -1,4 +1,5 @@
 pub mod Due
+pub mod Faults
 pub mod Finding
 pub mod Laws
 pub mod Samples

@@ -2,11 +2,13 @@
 use Rattle.std.specs.Prelude.{◌≡◌, ℕ, List, [], ◌∷◌, map, replicate, Some, None, Ok, Err, codes, Option, Result}
 use Rattle.calculus.specs.declared.cells.TermCell.{TermCell}
 use Rattle.calculus.specs.Cells.{cell_of}
+use Rattle.finder.specs.Faults.{fault}
 use Rattle.finder.specs.Finding.{answer}
-use Rattle.finder.specs.declared.works.Rule.{Rule}
-use Rattle.finder.specs.declared.works.Rule.TheVariants.{Function, Pair, Then, Else, Prepare, Read, Gates}
-use Rattle.finder.specs.declared.works.FindFault.{FindFault}
-use Rattle.finder.specs.declared.works.FindFault.TheVariants.{TooManyCells, BadCell, NotWhole, NoRule}
+use Rattle.finder.specs.declared.rules.Rule.{Rule}
+use Rattle.finder.specs.declared.rules.Rule.TheVariants.{Function, Pair, Then, Else, Prepare, Read, Gates}
+use Rattle.finder.specs.declared.faults.FindReason.{FindReason}
+use Rattle.finder.specs.declared.faults.FindFault.{FindFault}
+use Rattle.finder.specs.declared.faults.FindReason.TheVariants.{TooManyCells, BadCell, NotWhole, NoRule}
 
 abbrev lettered : List ℕ → List TermCell
 lettered ops = map (λ op. cell_of op 0 0) ops
@@ -21,8 +23,8 @@ value ops = record { ops = ops; gets = Ok None }
 abbrev step : List ℕ → Rule → ℕ → Sample
 step ops r k = record { ops = ops; gets = Ok (Some (r, k)) }
 
-abbrev refused : List ℕ → FindFault → Sample
-refused ops f = record { ops = ops; gets = Err f }
+abbrev refused : List ℕ → FindReason → ℕ → Sample
+refused ops r k = record { ops = ops; gets = Err (fault r k) }
 
 abbrev samples : List Sample
 samples =
@@ -45,24 +47,24 @@ samples =
     ∷ step (codes "dpan01amq") Prepare 2
     ∷ step (codes "iamqan00") Read 1
     -- no rule
-    ∷ refused (codes "a01") (NoRule 0)
-    ∷ refused (codes "anq") (NoRule 0)
-    ∷ refused (codes "am0") (NoRule 0)
-    ∷ refused (codes "agpqq") (NoRule 0)
-    ∷ refused (codes "d0v") (NoRule 0)
-    ∷ refused (codes "iq01") (NoRule 0)
-    ∷ refused (codes "p0a01") (NoRule 2)
-    ∷ refused (codes "pa01an0") (NoRule 1)
+    ∷ refused (codes "a01") NoRule 0
+    ∷ refused (codes "anq") NoRule 0
+    ∷ refused (codes "am0") NoRule 0
+    ∷ refused (codes "agpqq") NoRule 0
+    ∷ refused (codes "d0v") NoRule 0
+    ∷ refused (codes "iq01") NoRule 0
+    ∷ refused (codes "p0a01") NoRule 2
+    ∷ refused (codes "pa01an0") NoRule 1
     -- no running term
-    ∷ refused (codes "") (NotWhole 0)
-    ∷ refused (codes "an") (NotWhole 0)
-    ∷ refused (codes "01") (NotWhole 1)
-    ∷ refused (codes "0x") (BadCell 1)
+    ∷ refused (codes "") NotWhole 0
+    ∷ refused (codes "an") NotWhole 0
+    ∷ refused (codes "01") NotWhole 1
+    ∷ refused (codes "0x") BadCell 1
     ∷ []
 
 pub record SamplesHold : Type 0 where
   pub each : map (λ s. answer (lettered s.ops)) samples ≡ map (λ s. s.gets) samples
   -- an argument that no op allows, a gate on two qubits, and a cell too many
-  pub bad_handle : answer (cell_of 113 32 0 ∷ []) ≡ Err (BadCell 0)
+  pub bad_handle : answer (cell_of 113 32 0 ∷ []) ≡ Err (fault BadCell 0)
   pub swap : answer (cell_of 97 0 0 ∷ cell_of 103 6 0 ∷ cell_of 112 0 0 ∷ cell_of 113 3 0 ∷ cell_of 113 5 0 ∷ []) ≡ Ok (Some (Gates, 0))
-  pub too_many : answer (replicate 1025 (cell_of 120 0 0)) ≡ Err (TooManyCells 1024)
+  pub too_many : answer (replicate 1025 (cell_of 120 0 0)) ≡ Err (fault TooManyCells 1024)

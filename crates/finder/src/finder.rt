@@ -1,17 +1,19 @@
 //! Finds the rule that applies to a running term, and the cell it applies at.
 
 ghost use Rattle.std.specs.Prelude.{◌≡◌, ◌+◌, ◌<◌, ◌≤◌, length, drop, slice_index_or};
+ghost use Rattle.calculus.specs.Cells.{blank};
 ghost use Rattle.calculus.specs.Letters.{arity};
 ghost use Rattle.calculus.specs.Reading.{term_at, TermsStand};
 ghost use Rattle.calculus.specs.Terms.{size, erased};
 ghost use Rattle.trees.specs.Reach.{ends};
-ghost use Rattle.finder.specs.Finding.{blank, end_or, tested, answer};
+ghost use Rattle.finder.specs.Finding.{end_or, tested, answer};
 ghost use Rattle.finder.specs.Search.{found};
 ghost use Rattle.finder.specs.Words.{spelt, operand_word, applied_of, branched_of, opened_of};
 
-use crate::works::{FindFault, Rule};
+use crate::faults::{FindFault, FindReason};
+use crate::rules::Rule;
 use calculus::{Gate, MOST_RUNNING_CELLS, TermCell, is_allowed};
-use trees::{first_failing, reach};
+use trees::{first_failing, not_one_tree, reach};
 
 // Whether the ops from `at` on begin with the letters of a word.
 fn spells(cells: &[TermCell], at: usize, word: &[char]) -> bool
@@ -125,16 +127,10 @@ fn test_cells(cells: &[TermCell]) -> Result<(), FindFault>
     ensures { result ≡ tested cells.now }
 {
     if cells.len() > MOST_RUNNING_CELLS {
-        return Err(FindFault::TooManyCells(MOST_RUNNING_CELLS));
+        return Err(FindReason::TooManyCells.at(MOST_RUNNING_CELLS));
     }
-    if let Some(cell) = first_failing(cells, |cell| is_allowed(cell)) {
-        return Err(FindFault::BadCell(cell));
-    }
-    let end = reach(cells, 0).ok_or(FindFault::NotWhole(0))?;
-    if end < cells.len() {
-        return Err(FindFault::NotWhole(end));
-    }
-    Ok(())
+    FindReason::BadCell.refuse_at(first_failing(cells, |cell| is_allowed(cell)))?;
+    FindReason::NotWhole.refuse_at(not_one_tree(cells))
 }
 
 /// The rule that applies to a running term and the cell it applies at, or nothing for a value; claims are disregarded.
@@ -145,6 +141,6 @@ pub fn find(cells: &[TermCell]) -> Result<Option<(Rule, usize)>, FindFault>
     let (_, Some((cell, rule))) = work(cells, 0) else {
         return Ok(None);
     };
-    let rule = rule.ok_or(FindFault::NoRule(cell))?;
+    let rule = rule.ok_or(FindReason::NoRule.at(cell))?;
     Ok(Some((rule, cell)))
 }

@@ -1,10 +1,12 @@
 //! The finder: which rule applies to a running term, and at which of its cells.
 #![tactic(auto)]
 
+mod faults;
 mod finder;
 mod promises;
-mod works;
+mod rules;
 
+pub use faults::{FindFault, FindReason};
 pub use finder::{find, past};
 pub use promises::{samples_are_answered, search_is_reduction};
-pub use works::{FindFault, Rule};
+pub use rules::Rule;

@@ -3,10 +3,10 @@ use Rattle.std.proofs.Common.{◌≡◌, ℕ, ◌+◌, Bool, true, false, T, leb
 use Rattle.calculus.specs.Types.{Ty}
 use Rattle.calculus.specs.Terms.{Term}
 use Rattle.verdict.specs.Claims.{claims_fit}
-use Rattle.verdict.specs.Faults.{Verdict, accepted, must, ◌then◌}
+use Rattle.verdict.specs.Faults.{Verdict, accepted, must, ◌then◌, fault}
 use Rattle.verdict.specs.Judging.{binders_of, is_stored, is_bound, entering}
 use Rattle.verdict.specs.declared.faults.CheckFault.{CheckFault}
-use Rattle.verdict.specs.declared.faults.CheckFault.TheVariants.{BadCell, TooDeep, NoBinder, WrongClaim}
+use Rattle.verdict.specs.declared.faults.CheckReason.TheVariants.{BadCell, TooDeep, NoBinder, WrongClaim}
 
 abbrev IsAccepted : Verdict → Type 0
 IsAccepted (Ok x) = Unit {0}
@@ -33,18 +33,18 @@ pub record Entered (bs : List Ty) (m : Term Ty) : Type 0 where
 pub entered : (k : ℕ) (bs : List Ty) (m : Term Ty) → (entering k bs m ≡ accepted) ↔ Entered bs m
 entered k bs m = (
   λ h.
-      let p = (must_accepted (is_stored m) (BadCell k) _).0 h in
-      let q = (must_accepted (leb (length bs + binders_of m) 32) (TooDeep k) _).0 p.1 in
-      let r = (must_accepted (is_bound bs m) (NoBinder k) _).0 q.1 in
-      record { stored = p.0; room = q.0; has_binder = r.0; fits = ((must_accepted (claims_fit bs m) (WrongClaim k) accepted).0 r.1).0 },
+      let p = (must_accepted (is_stored m) (fault BadCell k) _).0 h in
+      let q = (must_accepted (leb (length bs + binders_of m) 32) (fault TooDeep k) _).0 p.1 in
+      let r = (must_accepted (is_bound bs m) (fault NoBinder k) _).0 q.1 in
+      record { stored = p.0; room = q.0; has_binder = r.0; fits = ((must_accepted (claims_fit bs m) (fault WrongClaim k) accepted).0 r.1).0 },
   λ e.
-      (must_accepted (is_stored m) (BadCell k) _).1 (
+      (must_accepted (is_stored m) (fault BadCell k) _).1 (
         e.stored,
-        (must_accepted (leb (length bs + binders_of m) 32) (TooDeep k) _).1 (
+        (must_accepted (leb (length bs + binders_of m) 32) (fault TooDeep k) _).1 (
           e.room,
-          (must_accepted (is_bound bs m) (NoBinder k) _).1 (
+          (must_accepted (is_bound bs m) (fault NoBinder k) _).1 (
             e.has_binder,
-            (must_accepted (claims_fit bs m) (WrongClaim k) accepted).1 (e.fits, refl),
+            (must_accepted (claims_fit bs m) (fault WrongClaim k) accepted).1 (e.fits, refl),
           ),
         ),
       ),

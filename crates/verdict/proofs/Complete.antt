@@ -7,11 +7,11 @@ use Rattle.calculus.specs.Contexts.{Context, extended, Shared, to_left, to_right
 use Rattle.calculus.specs.Typing.{Derives, Claimed, rule_variable, rule_constant, rule_unit, rule_function, rule_duplicable_function, rule_application, rule_pair, rule_condition, rule_let}
 use Rattle.calculus.specs.Stripping.{marks, core, first, second, positive, duplicable}
 use Rattle.verdict.specs.Claims.{context_of, function_fits, application_fits, pair_fits, condition_fits, let_fits}
-use Rattle.verdict.specs.Faults.{accepted}
+use Rattle.verdict.specs.Faults.{accepted, fault}
 use Rattle.verdict.specs.Judging.{verdict_from}
 use Rattle.verdict.specs.Sharing.{all_duplicable}
 use Rattle.verdict.specs.Uses.{uses, nested}
-use Rattle.verdict.specs.declared.faults.CheckFault.TheVariants.{UsedTwice, Captures}
+use Rattle.verdict.specs.declared.faults.CheckReason.TheVariants.{UsedTwice, Captures}
 use Rattle.verdict.proofs.Accepting.{then_accepted, must_accepted, entered}
 use Rattle.calculus.proofs.Stripping.{T_and}
 use Rattle.verdict.proofs.Uses.{from_either, used_free}
@@ -113,7 +113,7 @@ function_accepted k bs c m n a b q r l v u =
     let f : T (function_fits c (claim_of m)) = simp claims (cc) in
     simp then_accepted ((entered k bs (lam c m)).1 (record { stored = tt; room = le→leb _ 32 l; has_binder = tt; fits = f })
     & rw e₁ v
-    & (must_accepted _ (Captures k) accepted).1 (implies (duplicable c) _ (λ h. u (subst (λ i. T (positive i)) e₂ h)), refl))
+    & (must_accepted _ (fault Captures k) accepted).1 (implies (duplicable c) _ (λ h. u (subst (λ i. T (positive i)) e₂ h)), refl))
 
 pub complete : {γ : Context} {m : Term Ty} {t : Ty} → Derives Claimed γ m t → (k : ℕ) (bs : List Ty) → length bs + nested m ≤ 32 → Within γ bs → verdict_from k bs m ≡ accepted
 complete (rule_variable {c = c} {x = bound i} {a = a} p e s) k bs l g =
@@ -134,7 +134,7 @@ complete (rule_application {c = c} {m = m} {n = n} p s d e) k bs l g =
     simp then_accepted ((entered k bs (app c m n)).1 (record { stored = tt; room = le→leb _ 32 (omega arith); has_binder = tt; fits = f })
     & complete d (k + 1) bs (omega arith) (within_left bs s g)
     & complete e _ bs (omega arith) (within_right bs s g)
-    & (must_accepted _ (UsedTwice k) accepted).1 (both_copyable bs s g (uses m) (uses n) (used_has d) (used_has e), refl))
+    & (must_accepted _ (fault UsedTwice k) accepted).1 (both_copyable bs s g (uses m) (uses n) (used_has d) (used_has e), refl))
 complete (rule_pair {c = c} {m = m} {n = n} j a b p s q d e) k bs l g =
     let e₀ = core_is c j (tensor a b) (p ∙ q) in
     let e₁ = first_is c j (tensor a b) (p ∙ q) in
@@ -144,14 +144,14 @@ complete (rule_pair {c = c} {m = m} {n = n} j a b p s q d e) k bs l g =
     simp then_accepted ((entered k bs (pair c m n)).1 (record { stored = tt; room = le→leb _ 32 (omega arith); has_binder = tt; fits = f })
     & complete d (k + 1) bs (omega arith) (within_left bs s g)
     & complete e _ bs (omega arith) (within_right bs s g)
-    & (must_accepted _ (UsedTwice k) accepted).1 (both_copyable bs s g (uses m) (uses n) (used_has d) (used_has e), refl))
+    & (must_accepted _ (fault UsedTwice k) accepted).1 (both_copyable bs s g (uses m) (uses n) (used_has d) (used_has e), refl))
 complete (rule_condition {c = c} {p = r} {m = m} {n = n} p s d e f) k bs l g =
     let o : T (condition_fits c (claim_of r) (claim_of m) (claim_of n)) = simp claims (claimed d & cc (claimed e) & cc (claimed f)) in
     simp then_accepted ((entered k bs (if_then_else c r m n)).1 (record { stored = tt; room = le→leb _ 32 (omega arith); has_binder = tt; fits = o })
     & complete d (k + 1) bs (omega arith) (within_left bs s g)
     & complete e _ bs (omega arith) (within_right bs s g)
     & complete f _ bs (omega arith) (within_right bs s g)
-    & (must_accepted _ (UsedTwice k) accepted).1 (both_copyable bs s g (uses r) (λ x. uses m x || uses n x) (used_has d) (λ x. from_either (uses m x) (uses n x) (used_has e x) (used_has f x)), refl))
+    & (must_accepted _ (fault UsedTwice k) accepted).1 (both_copyable bs s g (uses r) (λ x. uses m x || uses n x) (used_has d) (λ x. from_either (uses m x) (uses n x) (used_has e x) (used_has f x)), refl))
 complete (rule_let {γ₂ = γ₂} {c = c} {m = m} {n = n} j a b p s d e) k bs l g =
     let e₀ = core_is (claim_of m) j (tensor a b) (claimed d) in
     let e₁ = first_is (claim_of m) j (tensor a b) (claimed d) in
@@ -163,4 +163,4 @@ complete (rule_let {γ₂ = γ₂} {c = c} {m = m} {n = n} j a b p s d e) k bs l
     simp then_accepted ((entered k bs (let_pair c m n)).1 (record { stored = tt; room = le→leb _ 32 (omega arith); has_binder = tt; fits = f })
     & complete d (k + 1) bs (omega arith) (within_left bs s g)
     & rw (e₁, e₂, e₃) (complete e _ (bangs j b ∷ bangs j a ∷ bs) (omega arith) w)
-    & (must_accepted _ (UsedTwice k) accepted).1 (both_copyable bs s g (uses m) (λ x. uses n (under (under x))) (used_has d) o, refl))
+    & (must_accepted _ (fault UsedTwice k) accepted).1 (both_copyable bs s g (uses m) (λ x. uses n (under (under x))) (used_has d) o, refl))

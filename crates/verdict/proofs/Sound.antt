@@ -8,11 +8,11 @@ use Rattle.calculus.specs.Contexts.{Context, extended, DuplicableAt}
 use Rattle.calculus.specs.Typing.{Derives, Claimed, rule_variable, rule_constant, rule_unit, rule_function, rule_duplicable_function, rule_application, rule_pair, rule_condition, rule_let}
 use Rattle.calculus.specs.Stripping.{marks, core, first, second, left_of, right_of, positive, subtype}
 use Rattle.verdict.specs.Claims.{variable_fits}
-use Rattle.verdict.specs.Faults.{accepted}
+use Rattle.verdict.specs.Faults.{accepted, fault}
 use Rattle.verdict.specs.Judging.{verdict_from}
 use Rattle.verdict.specs.Sharing.{all_duplicable}
 use Rattle.verdict.specs.Uses.{uses, nested}
-use Rattle.verdict.specs.declared.faults.CheckFault.TheVariants.{UsedTwice, Captures}
+use Rattle.verdict.specs.declared.faults.CheckReason.TheVariants.{UsedTwice, Captures}
 use Rattle.verdict.proofs.Accepting.{then_accepted, must_accepted, entered}
 use Rattle.calculus.proofs.Stripping.{T_and, same_exact, under_marks, subtype_exact}
 use Rattle.verdict.proofs.Uses.{in_left, in_right, free_used}
@@ -48,24 +48,24 @@ sound k bs (lam c m) γ h g =
     let v = simp then_accepted at h in
     let e = (same_exact (core c) (arrow (first c) (claim_of m))).0 ((entered k bs (lam c m)).0 v.0).fits in
     function_by_marks γ bs c m (first c) (claim_of m) (sound (k + 1) (first c ∷ bs) m (extended (first c) γ) v.1.0 (agrees_inside γ bs (first c) (uses m) g)) g
-    (marks c) (under_marks_is c (arrow (first c) (claim_of m)) e) ((must_accepted _ (Captures k) accepted).0 v.1.1).0
+    (marks c) (under_marks_is c (arrow (first c) (claim_of m)) e) ((must_accepted _ (fault Captures k) accepted).0 v.1.1).0
 sound k bs (app c m n) γ h g =
     let v = simp then_accepted at h in
     let e = (same_exact (claim_of m) (arrow (claim_of n) c)).0 ((entered k bs (app c m n)).0 v.0).fits in
-    rule_application refl (parted γ bs (uses m) (uses n) g ((must_accepted _ (UsedTwice k) accepted).0 v.1.1.1).0)
+    rule_application refl (parted γ bs (uses m) (uses n) g ((must_accepted _ (fault UsedTwice k) accepted).0 v.1.1.1).0)
     (rw e at (sound (k + 1) bs m _ v.1.0 (left_agrees γ bs (uses m) (uses n) g)))
     (sound _ bs n _ v.1.1.0 (right_agrees γ bs (uses m) (uses n) g))
 sound k bs (pair c m n) γ h g =
     let v = simp then_accepted at h in
     let e = simp claims at ((entered k bs (pair c m n)).0 v.0).fits in
-    rule_pair (marks c) (first c) (second c) refl (parted γ bs (uses m) (uses n) g ((must_accepted _ (UsedTwice k) accepted).0 v.1.1.1).0) (under_marks_is c (tensor (first c) (second c)) e.0)
+    rule_pair (marks c) (first c) (second c) refl (parted γ bs (uses m) (uses n) g ((must_accepted _ (fault UsedTwice k) accepted).0 v.1.1.1).0) (under_marks_is c (tensor (first c) (second c)) e.0)
     (rw e.1.0 at (sound (k + 1) bs m _ v.1.0 (left_agrees γ bs (uses m) (uses n) g)))
     (rw e.1.1 at (sound _ bs n _ v.1.1.0 (right_agrees γ bs (uses m) (uses n) g)))
 sound k bs (if_then_else c p m n) γ h g =
     let v = simp then_accepted at h in
     let e = simp claims at ((entered k bs (if_then_else c p m n)).0 v.0).fits in
     let r = right_agrees γ bs (uses p) (λ x. uses m x || uses n x) g in
-    rule_condition refl (parted γ bs (uses p) (λ x. uses m x || uses n x) g ((must_accepted _ (UsedTwice k) accepted).0 v.1.1.1.1).0)
+    rule_condition refl (parted γ bs (uses p) (λ x. uses m x || uses n x) g ((must_accepted _ (fault UsedTwice k) accepted).0 v.1.1.1.1).0)
     (rw e.0 at (sound (k + 1) bs p _ v.1.0 (left_agrees γ bs (uses p) (λ x. uses m x || uses n x) g)))
     (rw e.1.0 at (sound _ bs m _ v.1.1.0 (λ x u. r x (in_left _ _ u))))
     (rw e.1.1 at (sound _ bs n _ v.1.1.1.0 (λ x u. r x (in_right _ _ u))))
@@ -74,7 +74,7 @@ sound k bs (let_pair c m n) γ h g =
     let e = simp claims at ((entered k bs (let_pair c m n)).0 v.0).fits in
     let d = claim_of m in
     let r = right_agrees γ bs (uses m) (λ x. uses n (under (under x))) g in
-    rule_let (marks d) (first d) (second d) refl (parted γ bs (uses m) (λ x. uses n (under (under x))) g ((must_accepted _ (UsedTwice k) accepted).0 v.1.1.1).0)
+    rule_let (marks d) (first d) (second d) refl (parted γ bs (uses m) (λ x. uses n (under (under x))) g ((must_accepted _ (fault UsedTwice k) accepted).0 v.1.1.1).0)
     (rw (under_marks_is d (tensor (first d) (second d)) e.0) at (sound (k + 1) bs m _ v.1.0 (left_agrees γ bs (uses m) (λ x. uses n (under (under x))) g)))
     (rw e.1 at (sound _ _ n _ v.1.1.0 (agrees_inside _ (left_of d ∷ bs) (right_of d) (uses n) (agrees_inside _ bs (left_of d) (λ x. uses n (under x)) r))))
 

@@ -1,29 +1,23 @@
--- The faults of a program: their numbers and cells, and verdicts made of tests in a row.
+-- The faults of a program with their numbers, and verdicts made of tests in a row.
 use Rattle.std.specs.Prelude.{ℕ, Bool, cond, Some, None, Ok, Err, Option, Result}
+use Rattle.verdict.specs.declared.faults.CheckReason.{CheckReason}
+use Rattle.verdict.specs.declared.faults.CheckReason.TheVariants.{TooManyCells, BadCell, NotWhole, ClaimOutside, TooDeep, NoBinder, WrongClaim, UsedTwice, Captures}
 use Rattle.verdict.specs.declared.faults.CheckFault.{CheckFault}
-use Rattle.verdict.specs.declared.faults.CheckFault.TheVariants.{TooManyCells, BadCell, NotWhole, ClaimOutside, TooDeep, NoBinder, WrongClaim, UsedTwice, Captures}
 
-abbrev pub fault_number : CheckFault → ℕ
-fault_number (TooManyCells k) = 20
-fault_number (BadCell k) = 21
-fault_number (NotWhole k) = 22
-fault_number (ClaimOutside k) = 23
-fault_number (TooDeep k) = 24
-fault_number (NoBinder k) = 25
-fault_number (WrongClaim k) = 26
-fault_number (UsedTwice k) = 27
-fault_number (Captures k) = 28
+abbrev pub number_of : CheckReason → ℕ
+number_of TooManyCells = 20
+number_of BadCell = 21
+number_of NotWhole = 22
+number_of ClaimOutside = 23
+number_of TooDeep = 24
+number_of NoBinder = 25
+number_of WrongClaim = 26
+number_of UsedTwice = 27
+number_of Captures = 28
 
-abbrev pub fault_cell : CheckFault → ℕ
-fault_cell (TooManyCells k) = k
-fault_cell (BadCell k) = k
-fault_cell (NotWhole k) = k
-fault_cell (ClaimOutside k) = k
-fault_cell (TooDeep k) = k
-fault_cell (NoBinder k) = k
-fault_cell (WrongClaim k) = k
-fault_cell (UsedTwice k) = k
-fault_cell (Captures k) = k
+-- the fault for a reason at a cell
+abbrev pub fault : CheckReason → ℕ → CheckFault
+fault r k = record { reason = r; cell = k }
 
 -- Accepted, or refused by a fault.
 abbrev pub Verdict : Type 0

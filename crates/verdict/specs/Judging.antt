@@ -6,10 +6,10 @@ use Rattle.calculus.specs.Contexts.{empty}
 use Rattle.calculus.specs.Typing.{Derives, Claimed}
 use Rattle.calculus.specs.Stripping.{marks, first, left_of, right_of}
 use Rattle.verdict.specs.Claims.{context_of, claims_fit}
-use Rattle.verdict.specs.Faults.{Verdict, accepted, must, ◌then◌}
+use Rattle.verdict.specs.Faults.{Verdict, accepted, must, ◌then◌, fault}
 use Rattle.verdict.specs.Sharing.{apart, uncaptured}
 use Rattle.verdict.specs.Uses.{uses, nested}
-use Rattle.verdict.specs.declared.faults.CheckFault.TheVariants.{BadCell, TooDeep, NoBinder, WrongClaim}
+use Rattle.verdict.specs.declared.faults.CheckReason.TheVariants.{BadCell, TooDeep, NoBinder, WrongClaim}
 
 -- how many binders a node puts in scope
 abbrev pub binders_of : Term Ty → ℕ
@@ -48,10 +48,10 @@ is_bound bs (let_pair c m n) = true
 -- the tests of the node at cell k before its parts, below binders with these types
 abbrev pub entering : ℕ → List Ty → Term Ty → Verdict
 entering k bs m =
-    must (is_stored m) (BadCell k)
-    (must (nat_le (length bs + binders_of m) 32) (TooDeep k)
-    (must (is_bound bs m) (NoBinder k)
-    (must (claims_fit bs m) (WrongClaim k) accepted)))
+    must (is_stored m) (fault BadCell k)
+    (must (nat_le (length bs + binders_of m) 32) (fault TooDeep k)
+    (must (is_bound bs m) (fault NoBinder k)
+    (must (claims_fit bs m) (fault WrongClaim k) accepted)))
 
 -- The verdict on the term whose first cell is k, below binders with these types, the nearest first.
 abbrev pub verdict_from : ℕ → List Ty → Term Ty → Verdict

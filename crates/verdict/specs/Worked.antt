@@ -3,9 +3,9 @@ use Rattle.std.specs.Prelude.{◌≡◌, Bool, true, false, List, [], ◌∷◌,
 use Rattle.calculus.specs.Types.{Ty, bit, qbit, bang, arrow, tensor}
 use Rattle.calculus.specs.Terms.{bit_of, bound, Term, var, const, lam, pair, if_then_else}
 use Rattle.calculus.specs.Stripping.{subtype}
-use Rattle.verdict.specs.Faults.{Verdict, accepted}
+use Rattle.verdict.specs.Faults.{Verdict, accepted, fault}
 use Rattle.verdict.specs.Judging.{verdict}
-use Rattle.verdict.specs.declared.faults.CheckFault.TheVariants.{UsedTwice, Captures}
+use Rattle.verdict.specs.declared.faults.CheckReason.TheVariants.{UsedTwice, Captures}
 
 pub data Question : Type 0 where
   typed : Term Ty → Question
@@ -33,10 +33,10 @@ in_both_branches = lam (arrow qbit qbit) (if_then_else qbit (const bit (bit_of f
 
 abbrev pub rows : List (Question × Answer)
 rows =
-    (typed (twice qbit qbit), judged (Err (UsedTwice 1)))
-    ∷ (typed (twice bit bit), judged (Err (UsedTwice 1)))
+    (typed (twice qbit qbit), judged (Err (fault UsedTwice 1)))
+    ∷ (typed (twice bit bit), judged (Err (fault UsedTwice 1)))
     ∷ (typed (twice (bang bit) bit), judged accepted)
-    ∷ (typed first_of_two, judged (Err (Captures 1)))
+    ∷ (typed first_of_two, judged (Err (fault Captures 1)))
     ∷ (typed in_both_branches, judged accepted)
     ∷ (below (bang bit) bit, decided true)
     ∷ (below bit (bang bit), decided false)

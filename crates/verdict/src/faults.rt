@@ -1,63 +1,79 @@
 //! Why a program is refused, and at which cell.
 
-ghost use Rattle.std.specs.Prelude.{◌≡◌};
-ghost use Rattle.verdict.specs.Faults.{fault_number, fault_cell};
+ghost use Rattle.std.specs.Prelude.{◌≡◌, if◌then◌else◌, Err};
+ghost use Rattle.verdict.specs.Faults.{accepted, fault, none_at, number_of};
 
-/// A fault of a program, with the cell at fault: of the type table or of the term table up to `NotWhole`, else of the term table.
+/// Why a program is refused, each reason with its number.
 #[derive(Clone, Copy, PartialEq, Eq, Debug, Drop)]
-pub enum CheckFault {
+pub enum CheckReason {
     /// More cells than a table may have.
-    TooManyCells(usize),
+    TooManyCells = 20,
     /// An unknown letter, a stored qubit name, or an argument that the letter does not allow.
-    BadCell(usize),
+    BadCell = 21,
     /// The types are not whole trees, or the term is not exactly one.
-    NotWhole(usize),
+    NotWhole = 22,
     /// A claim that is no place of the type table.
-    ClaimOutside(usize),
+    ClaimOutside = 23,
     /// One binder too many in scope.
-    TooDeep(usize),
+    TooDeep = 24,
     /// A variable that no binder binds.
-    NoBinder(usize),
+    NoBinder = 25,
     /// A claim against its typing rule.
-    WrongClaim(usize),
+    WrongClaim = 26,
     /// A variable that is not duplicable, used in two parts.
-    UsedTwice(usize),
+    UsedTwice = 27,
     /// A duplicable function that uses an outer variable which is not.
-    Captures(usize),
+    Captures = 28,
+}
+
+impl CheckReason {
+    /// The number of the fault, from 20 to 28.
+    pub fn number(self) -> u16
+        ensures { result ≡ number_of self }
+    {
+        self as u16
+    }
+
+    /// The fault for this reason at a cell.
+    #[inline(always)]
+    pub fn at(self, cell: usize) -> CheckFault
+        ensures { result ≡ fault self cell }
+    {
+        CheckFault { reason: self, cell }
+    }
+
+    /// Refuses for this reason at a cell where the test holds.
+    #[inline(always)]
+    pub fn refuse_if(self, test: bool, cell: usize) -> Result<(), CheckFault>
+        ensures { result ≡ (if test then Err (fault self cell) else accepted) }
+    {
+        if test { Err(self.at(cell)) } else { Ok(()) }
+    }
+
+    /// Refuses for this reason at the cell that was found, if one was.
+    #[inline(always)]
+    pub fn refuse_at(self, found: Option<usize>) -> Result<(), CheckFault>
+        ensures { result ≡ none_at (fault self) found accepted }
+    {
+        match found {
+            Some(cell) => Err(self.at(cell)),
+            None => Ok(()),
+        }
+    }
+}
+
+/// A refused program: the reason, and the cell at fault: of the type table or of the term table up to `NotWhole`, else of the term table.
+#[derive(Clone, Copy, PartialEq, Eq, Debug, Drop)]
+pub struct CheckFault {
+    pub reason: CheckReason,
+    pub cell: usize,
 }
 
 impl CheckFault {
-    /// The fault's number.
+    /// The number of the fault, from 20 to 28.
     pub fn number(self) -> u16
-        ensures { result ≡ fault_number self }
+        ensures { result ≡ number_of self.reason }
     {
-        match self {
-            CheckFault::TooManyCells(_) => 20,
-            CheckFault::BadCell(_) => 21,
-            CheckFault::NotWhole(_) => 22,
-            CheckFault::ClaimOutside(_) => 23,
-            CheckFault::TooDeep(_) => 24,
-            CheckFault::NoBinder(_) => 25,
-            CheckFault::WrongClaim(_) => 26,
-            CheckFault::UsedTwice(_) => 27,
-            CheckFault::Captures(_) => 28,
-        }
-    }
-
-    /// The cell at fault.
-    pub fn cell(self) -> usize
-        ensures { result ≡ fault_cell self }
-    {
-        match self {
-            CheckFault::TooManyCells(cell)
-            | CheckFault::BadCell(cell)
-            | CheckFault::NotWhole(cell)
-            | CheckFault::ClaimOutside(cell)
-            | CheckFault::TooDeep(cell)
-            | CheckFault::NoBinder(cell)
-            | CheckFault::WrongClaim(cell)
-            | CheckFault::UsedTwice(cell)
-            | CheckFault::Captures(cell) => cell,
-        }
+        self.reason.number()
     }
 }

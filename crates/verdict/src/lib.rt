@@ -8,4 +8,4 @@ pub use deciding::{
     acceptance_is_derivability, acceptance_is_derivability_below, uses_are_free,
     worked_terms_are_judged,
 };
-pub use faults::CheckFault;
+pub use faults::{CheckFault, CheckReason};

@@ -1,5 +1,5 @@
 use Rattle.std.proofs.Common.{rules, ◌+◌, Some, get_or, drop, ap, ◌∙◌, arith}
-use Rattle.finder.specs.Finding.{blank}
+use Rattle.calculus.specs.Cells.{blank}
 use Rattle.std.specs.Option.{option_or}
 use Rattle.finder.specs.Search.{Found}
 use Rattle.finder.specs.Words.{applied_of, branched_of, opened_of}
