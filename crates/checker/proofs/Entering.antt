@@ -1,5 +1,5 @@
 -- The tests of a cell as the tests of the node that it means.
-use Rattle.std.proofs.Common.{◌≡◌, ℕ, zero, suc, ◌+◌, ◌<◌, Bool, true, false, cond, eqb, ltb, leb, List, [], ◌∷◌, length, is_some, Err, sym, refl, ap, ◌∙◌, subst, ap₂, inl, inr, arith}
+use Rattle.std.proofs.Common.{◌≡◌, ℕ, zero, suc, ◌+◌, ◌<◌, Bool, true, false, not, cond, eqb, ltb, leb, List, [], ◌∷◌, length, is_some, Err, sym, refl, ap, ◌∙◌, subst, ap₂, inl, inr, arith}
 use Rattle.std.specs.List.{slice_get}
 use Rattle.std.proofs.lemmas.Bool.{lt-ltb, le-ltb, cases_lt}
 use Rattle.calculus.specs.declared.cells.TermCell.{TermCell}
@@ -17,11 +17,11 @@ use Rattle.checker.proofs.Showing.{depth_is}
 use Rattle.checker.proofs.Nodes.{not_qubit, read, argument_allowed}
 use Rattle.checker.proofs.Trees.{trees}
 use Rattle.verdict.specs.Claims.{claims_fit}
-use Rattle.verdict.specs.Faults.{Verdict, accepted, must, ◌then◌}
+use Rattle.verdict.specs.Faults.{Verdict, accepted, must, ◌then◌, fault}
 use Rattle.verdict.specs.Judging.{binders_of, is_stored, is_bound, entering}
 use Rattle.verdict.specs.Uses.{uses}
 use Rattle.verdict.specs.declared.faults.CheckFault.{CheckFault}
-use Rattle.verdict.specs.declared.faults.CheckFault.TheVariants.{BadCell, TooDeep, NoBinder, WrongClaim}
+use Rattle.verdict.specs.declared.faults.CheckReason.TheVariants.{BadCell, TooDeep, NoBinder, WrongClaim}
 
 has_place : (bs : List Ty) (i : ℕ) → is_some (slice_get bs i) ≡ ltb i (length bs)
 has_place [] i = sym (le-ltb i 0 (omega arith))
@@ -63,6 +63,10 @@ split_cond true true f g v = refl
 split_cond true false f g v = refl
 split_cond false b f g v = refl
 
+refused_unless : (b : Bool) (f : CheckFault) → cond (not b) (Err f) accepted ≡ must b f accepted
+refused_unless true f = refl
+refused_unless false f = refl
+
 module _ (n : Node) (s : Scope) where
   asked : Asked (in_scope s) (cell_of n).op (cell_of n).argument (term_of n)
   asked =
@@ -73,22 +77,23 @@ module _ (n : Node) (s : Scope) where
       subst (λ m. Asked (in_scope s) c.op c.argument m) (sym (ap (reclaimed (type_at (types_of n))) (read n))) (subst (λ o. Asked (in_scope s) o c.argument (reclaimed (type_at (types_of n)) (top no_term (read_term l c.argument c.claim (trees (terms_of n) (n.at + 1)))))) (sym e) r)
 
   -- the tests of the binders, then of the claims
-  pub entering_is : entering n.at (in_scope s) (term_of n) ≡ (depth_tested n.at (cell_of n).op (cell_of n).argument (depth s) then must (claims_fit (in_scope s) (term_of n)) (WrongClaim n.at) accepted)
+  pub entering_is : entering n.at (in_scope s) (term_of n) ≡ (depth_tested n.at (cell_of n).op (cell_of n).argument (depth s) then must (claims_fit (in_scope s) (term_of n)) (fault WrongClaim n.at) accepted)
   entering_is =
       let c = cell_of n in
       let bs = in_scope s in
       let d = depth_is s in
-      let claims = must (claims_fit bs (term_of n)) (WrongClaim n.at) accepted in
-      ap (λ b. must b (BadCell n.at) (must (leb (length bs + binders_of (term_of n)) 32) (TooDeep n.at) (must (is_bound bs (term_of n)) (NoBinder n.at) claims))) asked.stored
-      ∙ ap₂ (λ a b. must (leb a 32) (TooDeep n.at) (must b (NoBinder n.at) claims)) (ap₂ ◌+◌ d asked.binders) (asked.has_binder ∙ ap (λ d. cond (eqb c.op 118) (ltb c.argument d) true) d)
-      ∙ split_cond (leb (depth s + letter_binders c.op) 32) (cond (eqb c.op 118) (ltb c.argument (depth s)) true) (TooDeep n.at) (NoBinder n.at) claims
+      let claims = must (claims_fit bs (term_of n)) (fault WrongClaim n.at) accepted in
+      ap (λ b. must b (fault BadCell n.at) (must (leb (length bs + binders_of (term_of n)) 32) (fault TooDeep n.at) (must (is_bound bs (term_of n)) (fault NoBinder n.at) claims))) asked.stored
+      ∙ ap₂ (λ a b. must (leb a 32) (fault TooDeep n.at) (must b (fault NoBinder n.at) claims)) (ap₂ ◌+◌ d asked.binders) (asked.has_binder ∙ ap (λ d. cond (eqb c.op 118) (ltb c.argument d) true) d)
+      ∙ split_cond (leb (depth s + letter_binders c.op) 32) (cond (eqb c.op 118) (ltb c.argument (depth s)) true) (fault TooDeep n.at) (fault NoBinder n.at) claims
 
   pub depth_refused : (f : CheckFault) (c : TermCell) (d : ℕ) → c ≡ cell_of n → d ≡ depth s → Err f ≡ depth_tested n.at c.op c.argument d → Err f ≡ entering n.at (in_scope s) (term_of n)
-  depth_refused f c d e q h = ap (λ v. v then must (claims_fit (in_scope s) (term_of n)) (WrongClaim n.at) accepted) (h ∙ ap₂ (λ (c : TermCell) d. depth_tested n.at c.op c.argument d) e q) ∙ sym entering_is
+  depth_refused f c d e q h = ap (λ v. v then must (claims_fit (in_scope s) (term_of n)) (fault WrongClaim n.at) accepted) (h ∙ ap₂ (λ (c : TermCell) d. depth_tested n.at c.op c.argument d) e q) ∙ sym entering_is
 
-  pub claims_tested : (b : Bool) (c : TermCell) (d : ℕ) → c ≡ cell_of n → d ≡ depth s → accepted ≡ depth_tested n.at c.op c.argument d → b ≡ claims_fit (in_scope s) (term_of n) → must b (WrongClaim n.at) accepted ≡ entering n.at (in_scope s) (term_of n)
+  pub claims_tested : (b : Bool) (c : TermCell) (d : ℕ) → c ≡ cell_of n → d ≡ depth s → accepted ≡ depth_tested n.at c.op c.argument d → b ≡ claims_fit (in_scope s) (term_of n) → cond (not b) (Err (fault WrongClaim n.at)) accepted ≡ entering n.at (in_scope s) (term_of n)
   claims_tested b c d q r h e =
-      ap (λ b. must b (WrongClaim n.at) accepted) e ∙ ap (λ v. v then must (claims_fit (in_scope s) (term_of n)) (WrongClaim n.at) accepted) (h ∙ ap₂ (λ (c : TermCell) d. depth_tested n.at c.op c.argument d) q r) ∙ sym entering_is
+      refused_unless b (fault WrongClaim n.at)
+      ∙ ap (λ b. must b (fault WrongClaim n.at) accepted) e ∙ ap (λ v. v then must (claims_fit (in_scope s) (term_of n)) (fault WrongClaim n.at) accepted) (h ∙ ap₂ (λ (c : TermCell) d. depth_tested n.at c.op c.argument d) q r) ∙ sym entering_is
 
 -- a cell of none of these letters uses no binder
 leaf_unused : (f : ℕ → Ty) (op : ℕ) (l : Letter) (x c : ℕ) (ms : List (Term ℕ)) → Coded op l → (op ≡ 118 → ⊥) → (op ≡ 108 → ⊥) → (op ≡ 97 → ⊥) → (op ≡ 112 → ⊥) → (op ≡ 100 → ⊥) → (op ≡ 105 → ⊥)

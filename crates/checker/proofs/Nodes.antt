@@ -1,10 +1,10 @@
 -- What stands at a place of a program, by the letter of its cell.
-use Rattle.std.proofs.Common.{◌≡◌, ℕ, suc, ◌+◌, ◌-◌, ◌<◌, ◌≤◌, not, T, eqb, length, drop, sym, refl, ap, ◌∙◌, subst, ap₂, arith}
+use Rattle.std.proofs.Common.{◌≡◌, ℕ, ◌+◌, ◌-◌, ◌<◌, ◌≤◌, not, T, eqb, length, drop, sym, refl, ap, ◌∙◌, subst, ap₂, arith}
 use Rattle.std.proofs.lemmas.Bool.{ltb-true}
 use Rattle.trees.specs.Whole.{height}
 use Rattle.calculus.specs.declared.cells.TermCell.{TermCell}
 use Rattle.calculus.specs.Letters.{letter, arity, arguments_of}
-use Rattle.calculus.specs.Terms.{bound, Term, var, const, star, lam, app, pair, if_then_else, let_pair, claim_of, size, reclaimed}
+use Rattle.calculus.specs.Terms.{bound, Term, var, const, star, lam, app, pair, if_then_else, let_pair, claim_of, reclaimed}
 use Rattle.calculus.specs.Reading.{top, rest, no_term, read_term, type_at, term_at}
 use Rattle.calculus.specs.Types.{Ty}
 use Rattle.calculus.proofs.Reading.{T_true, both}
@@ -14,16 +14,6 @@ use Rattle.checker.specs.Meaning.{meaning}
 use Rattle.checker.specs.Tables.{storable}
 use Rattle.checker.specs.declared.program.Node.{Node}
 use Rattle.checker.proofs.Trees.{trees, here, by_cell, second_tree, third_tree, every_at}
-
-pub size_reclaimed : {C D : Type 0} (f : C → D) (m : Term C) → size (reclaimed f m) ≡ size m
-size_reclaimed f (var c x) = refl
-size_reclaimed f (const c k) = refl
-size_reclaimed f (star c) = refl
-size_reclaimed f (lam c m) = ap suc (size_reclaimed f m)
-size_reclaimed f (app c m n) = ap suc (ap₂ ◌+◌ (size_reclaimed f m) (size_reclaimed f n))
-size_reclaimed f (pair c m n) = ap suc (ap₂ ◌+◌ (size_reclaimed f m) (size_reclaimed f n))
-size_reclaimed f (if_then_else c p m n) = ap suc (ap₂ ◌+◌ (size_reclaimed f p) (ap₂ ◌+◌ (size_reclaimed f m) (size_reclaimed f n)))
-size_reclaimed f (let_pair c m n) = ap suc (ap₂ ◌+◌ (size_reclaimed f m) (size_reclaimed f n))
 
 pub claim_reclaimed : {C D : Type 0} (f : C → D) (m : Term C) → claim_of (reclaimed f m) ≡ f (claim_of m)
 claim_reclaimed f (var c x) = refl

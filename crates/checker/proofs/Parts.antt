@@ -7,26 +7,27 @@ use Rattle.std.specs.List.{slice_get}
 use Rattle.calculus.specs.declared.cells.TermCell.{TermCell}
 use Rattle.calculus.specs.declared.cells.TypeCell.{TypeCell}
 use Rattle.calculus.specs.Reading.{type_at, term_at}
-use Rattle.calculus.specs.Stripping.{marks, first, left_of, right_of}
+use Rattle.calculus.specs.Stripping.{marks, first, is_tensor, left_of, right_of}
 use Rattle.calculus.specs.Terms.{Var, bound, under, Term, lam, claim_of, size}
 use Rattle.calculus.specs.Types.{Ty}
-use Rattle.calculus.proofs.Reading.{T_true}
-use Rattle.checker.specs.Judging.{types_of, terms_of, cell_of, term_near, term_of, PartOf, verdict_of}
+use Rattle.calculus.proofs.Reaching.{size_reclaimed}
+use Rattle.calculus.proofs.Reading.{T_true, both}
+use Rattle.checker.specs.Judging.{types_of, terms_of, cell_of, term_near, term_of, PartOf, verdict_of, with_binders}
 use Rattle.checker.specs.Scoping.{UsesOf, depth, has, in_scope, used_below}
 use Rattle.checker.specs.Meaning.{meaning}
 use Rattle.checker.specs.declared.program.Node.{Node}
 use Rattle.checker.specs.declared.program.Program.{Program}
 use Rattle.checker.specs.declared.scope.Scope.{Scope}
 use Rattle.checker.specs.declared.used.Used.{Used}
-use Rattle.checker.proofs.Fits.{function_none, let_none}
-use Rattle.checker.proofs.Nodes.{size_reclaimed, second_at, third_at, lam_here, app_here, pair_here, let_here, if_here, var_here, part_term}
+use Rattle.checker.proofs.Fits.{function_none}
+use Rattle.checker.proofs.Nodes.{second_at, third_at, lam_here, app_here, pair_here, let_here, if_here, var_here, part_term}
 use Rattle.checker.proofs.Showing.{Shows, shows_only, shows_either, apart_shows, depth_is}
 use Rattle.subtyping.specs.Meaning.{meant}
-use Rattle.subtyping.specs.Parting.{Apart}
+use Rattle.subtyping.specs.Parting.{Apart, Components}
 use Rattle.subtyping.specs.declared.parting.Core.{Core}
-use Rattle.subtyping.specs.declared.parting.Core.TheVariants.{Arrow, Pair}
+use Rattle.subtyping.specs.declared.parting.Core.TheVariants.{Arrow}
 use Rattle.subtyping.specs.declared.placed.TypeAt.{TypeAt}
-use Rattle.verdict.specs.Claims.{function_fits, let_fits}
+use Rattle.verdict.specs.Claims.{function_fits}
 use Rattle.verdict.specs.Faults.{Verdict, accepted, ◌then◌}
 use Rattle.verdict.specs.Judging.{entering, verdict, verdict_from}
 use Rattle.verdict.specs.Sharing.{apart, uncaptured}
@@ -111,6 +112,10 @@ pub three_left : (n a b d : Node) (s x : Scope) (t : Threefold n a b d (in_scope
 three_left n a b d s x t l r v k p q c e f h =
     three_done n a b d (in_scope s) t v c e f (h ∙ ap (λ s. apart n.at (in_scope s) (used_below l (depth s)) (used_below r (depth s))) k ∙ apart_shows s n.at l r (uses (term_of a)) (branch_uses b d) p q)
 
+-- the types in scope under the components of a pair
+pub let_binders : (a u v : TypeAt) (c : Ty) (s t : Scope) → Components a u v → meant a ≡ c → t ≡ s → with_binders (u ∷ v ∷ []) (in_scope t) ≡ right_of c ∷ left_of c ∷ in_scope s
+let_binders a u v c s t p e k = ap₂ (λ b bs. b ∷ bs) (p.right_is ∙ ap right_of e) (ap₂ (λ b s. b ∷ in_scope s) (p.left_is ∙ ap left_of e) k)
+
 module _ (n : Node) (s : Scope) (h : accepted ≡ entering n.at (in_scope s) (term_of n)) where
   entered_here : Entered (in_scope s) (term_of n)
   entered_here = (entered n.at (in_scope s) (term_of n)).0 (sym h)
@@ -172,12 +177,10 @@ module _ (n : Node) (s : Scope) (h : accepted ≡ entering n.at (in_scope s) (te
       }
 
   -- the pair that is given claims a pair
-  pub not_no_pair : (k : (cell_of n).op ≡ 100) (a : Node) → PartOf n 0 a → (b : TypeAt) (x : ℕ × Core) → Apart b x → meant b ≡ claim_of (term_of a) → ((u v : TypeAt) → x.1 ≡ Pair u v → ⊥) → ⊥
-  not_no_pair k a p b x t e f =
+  pub given_pair : (k : (cell_of n).op ≡ 100) (a : Node) → PartOf n 0 a → (b : TypeAt) → meant b ≡ claim_of (term_of a) → is_tensor (meant b) ≡ true
+  given_pair k a p b e =
       let l = subst (Entered (in_scope s)) (let_here n k) entered_here in
-      let c = claim_of (term_of n) in
-      let y = claim_of (term_near n (second_at n)) in
-      both_ways _ (sym (let_none b x t f c y ∙ ap (λ d. let_fits c d y) (e ∙ ap claim_of (part_term n 0 a p)))) (T_true _ l.fits)
+      ap is_tensor (e ∙ ap claim_of (part_term n 0 a p)) ∙ T_true _ (both _ _ l.fits).0
 
   -- i
   module _ (a b : Node) (p : PartOf n 0 a) (q : PartOf n 1 b) (k : (cell_of n).op ≡ 105) where

@@ -9,9 +9,9 @@ use Rattle.checker.specs.declared.scope.Scope.{Scope}
 use Rattle.checker.specs.declared.used.Used.{Used}
 use Rattle.checker.proofs.Clearing.{alike}
 use Rattle.subtyping.specs.Meaning.{meant}
-use Rattle.verdict.specs.Faults.{accepted, must}
+use Rattle.verdict.specs.Faults.{accepted, must, fault}
 use Rattle.verdict.specs.Sharing.{apart, uncaptured}
-use Rattle.verdict.specs.declared.faults.CheckFault.TheVariants.{UsedTwice, Captures}
+use Rattle.verdict.specs.declared.faults.CheckReason.TheVariants.{UsedTwice, Captures}
 
 -- The set has the variables below d binders that pass the test.
 abbrev pub Shows : Used → ℕ → (Var → Bool) → Type 0
@@ -49,9 +49,9 @@ module _ (s : Scope) where
 
   pub apart_shows : (at : ℕ) (l r : Used) (f g : Var → Bool) → Shows l (depth s) f → Shows r (depth s) g → apart at (in_scope s) (used_below l (depth s)) (used_below r (depth s)) ≡ apart at (in_scope s) f g
   apart_shows at l r f g a b =
-      ap (λ b. must b (UsedTwice at) accepted) (alike (in_scope s) (λ x. used_below l (depth s) x && used_below r (depth s) x) (λ x. f x && g x) (λ i w. ap₂ ◌&&◌ (a i (inner i w)) (b i (inner i w))))
+      ap (λ b. must b (fault UsedTwice at) accepted) (alike (in_scope s) (λ x. used_below l (depth s) x && used_below r (depth s) x) (λ x. f x && g x) (λ i w. ap₂ ◌&&◌ (a i (inner i w)) (b i (inner i w))))
 
   pub uncaptured_shows : (at n m : ℕ) (u : Used) (f : Var → Bool) → n ≡ m → Shows u (depth s) f → uncaptured at (in_scope s) n (used_below u (depth s)) ≡ uncaptured at (in_scope s) m f
   uncaptured_shows at n m u f q a =
       ap (λ n. uncaptured at (in_scope s) n (used_below u (depth s))) q
-      ∙ ap (λ b. must (not (positive m) || b) (Captures at) accepted) (alike (in_scope s) (used_below u (depth s)) f (λ i w. a i (inner i w)))
+      ∙ ap (λ b. must (not (positive m) || b) (fault Captures at) accepted) (alike (in_scope s) (used_below u (depth s)) f (λ i w. a i (inner i w)))

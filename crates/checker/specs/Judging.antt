@@ -1,5 +1,6 @@
 -- What the judging of a term speaks of: the terms at its nodes, their parts, and the binders around them.
-use Rattle.std.specs.Prelude.{◌≡◌, ℕ, ◌+◌, List, ◌∷◌, Some, None, Ok, Err, Option, Result, slice_index_or, ◌++◌, map, reverse}
+use Rattle.std.specs.Prelude.{◌≡◌, ℕ, ◌+◌, List, Ok, Err, Result, slice_index_or, ◌++◌, map, reverse}
+use Rattle.calculus.specs.Cells.{blank}
 use Rattle.calculus.specs.declared.cells.TypeCell.{TypeCell}
 use Rattle.calculus.specs.declared.cells.TermCell.{TermCell}
 use Rattle.calculus.specs.Terms.{Term}
@@ -26,7 +27,7 @@ terms_of n = n.program.now.terms.now
 
 -- the cell that a term begins with
 abbrev pub cell_of : Node → TermCell
-cell_of n = slice_index_or (terms_of n) n.at (record { op = 0; argument = 0; claim = 0 })
+cell_of n = slice_index_or (terms_of n) n.at blank
 
 -- the term at a place of the same program
 abbrev pub term_near : Node → ℕ → Term Ty

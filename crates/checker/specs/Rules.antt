@@ -1,10 +1,9 @@
--- The constants, by op and argument, and where their own types stand in the table of them.
+-- The constants, by op and argument, and their own types.
 use Rattle.std.specs.Prelude.{ℕ, Bool, true, false, Some, None, Option}
 use Rattle.calculus.specs.declared.gates.Gate.{Gate}
-use Rattle.calculus.specs.declared.gates.Gate.TheVariants.{H, X, Z, S, T, Cnot, Swap, Toffoli}
 use Rattle.calculus.specs.Gates.{gate_of}
 use Rattle.calculus.specs.Letters.{Letter, at_v, at_q, at_g, at_0, at_1, at_m, at_n, at_s, at_l, at_a, at_p, at_d, at_i, other}
-use Rattle.calculus.specs.Terms.{Const, bit_of, meas, new, gate}
+use Rattle.calculus.specs.Terms.{Const, bit_of, meas, new, gate, type_of}
 use Rattle.calculus.specs.Types.{Ty}
 use Rattle.verdict.specs.Claims.{constant_fits}
 
@@ -34,20 +33,7 @@ abbrev pub own_fits : Option Const → Ty → Bool
 own_fits None c = false
 own_fits (Some k) c = constant_fits k c
 
--- the places of the own types, one after the other: of bits, n, m, and gates on one, two and three qubits
-abbrev pub own_place : Const → ℕ
-own_place (bit_of b) = 0
-own_place new = 2
-own_place meas = 6
-own_place (gate H) = 11
-own_place (gate X) = 11
-own_place (gate Z) = 11
-own_place (gate S) = 11
-own_place (gate T) = 11
-own_place (gate Cnot) = 15
-own_place (gate Swap) = 15
-own_place (gate Toffoli) = 23
-
-abbrev pub own_placed : Option Const → Option ℕ
-own_placed None = None
-own_placed (Some k) = Some (own_place k)
+-- a constant's own type
+abbrev pub own_type : Option Const → Option Ty
+own_type None = None
+own_type (Some k) = Some (type_of k)

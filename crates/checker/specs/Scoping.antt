@@ -5,9 +5,9 @@ use Rattle.calculus.specs.Types.{Ty}
 use Rattle.checker.specs.declared.scope.Scope.{Scope}
 use Rattle.checker.specs.declared.used.Used.{Used}
 use Rattle.subtyping.specs.Meaning.{meant}
-use Rattle.verdict.specs.Faults.{Verdict, accepted, must}
+use Rattle.verdict.specs.Faults.{Verdict, accepted, must, fault}
 use Rattle.verdict.specs.Uses.{uses}
-use Rattle.verdict.specs.declared.faults.CheckFault.TheVariants.{TooDeep, NoBinder}
+use Rattle.verdict.specs.declared.faults.CheckReason.TheVariants.{TooDeep, NoBinder}
 
 -- the types of the binders in scope, the nearest first
 abbrev pub in_scope : Scope → List Ty
@@ -36,5 +36,5 @@ binders_of op = cond (op == 108) 1 (cond (op == 100) 2 0)
 -- the tests of a cell that need only the number of binders in scope: not too many, and a variable's binder is one of them
 abbrev pub depth_tested : ℕ → ℕ → ℕ → ℕ → Verdict
 depth_tested at op argument depth =
-    must (nat_le (depth + binders_of op) 32) (TooDeep at)
-    (must (cond (op == 118) (nat_lt argument depth) true) (NoBinder at) accepted)
+    must (nat_le (depth + binders_of op) 32) (fault TooDeep at)
+    (must (cond (op == 118) (nat_lt argument depth) true) (fault NoBinder at) accepted)

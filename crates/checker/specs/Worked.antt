@@ -6,8 +6,8 @@ use Rattle.calculus.specs.Types.{Ty, bit, qbit, bang, arrow, tensor}
 use Rattle.calculus.specs.declared.cells.TypeCell.{TypeCell}
 use Rattle.calculus.specs.declared.cells.TermCell.{TermCell}
 use Rattle.checker.specs.Accepting.{program_verdict}
-use Rattle.verdict.specs.Faults.{Verdict, accepted}
-use Rattle.verdict.specs.declared.faults.CheckFault.TheVariants.{NotWhole, UsedTwice, Captures}
+use Rattle.verdict.specs.Faults.{Verdict, accepted, fault}
+use Rattle.verdict.specs.declared.faults.CheckReason.TheVariants.{NotWhole, UsedTwice, Captures}
 
 pub record Program : Type 0 where
   pub types : List TypeCell
@@ -33,12 +33,12 @@ nothing = record { types = []; terms = [] }
 
 abbrev pub rows : List (Program × Verdict)
 rows =
-    (twice (arrow qbit (tensor qbit qbit)) 2 3 4, Err (UsedTwice 1))
-    ∷ (twice (arrow bit (tensor bit bit)) 2 3 4, Err (UsedTwice 1))
+    (twice (arrow qbit (tensor qbit qbit)) 2 3 4, Err (fault UsedTwice 1))
+    ∷ (twice (arrow bit (tensor bit bit)) 2 3 4, Err (fault UsedTwice 1))
     ∷ (twice (arrow (bang bit) (tensor bit bit)) 3 4 5, accepted)
-    ∷ (first_of_two, Err (Captures 1))
+    ∷ (first_of_two, Err (fault Captures 1))
     ∷ (in_both_branches, accepted)
-    ∷ (nothing, Err (NotWhole 0))
+    ∷ (nothing, Err (fault NotWhole 0))
     ∷ []
 
 abbrev pub WorkedPrograms : Type 0

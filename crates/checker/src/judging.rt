@@ -11,20 +11,18 @@ use crate::leaving::{apart, uncaptured};
 use crate::program::{Node, Program};
 use crate::rules::claims_agree;
 use crate::scope::{Entered, Scope, test_depth};
-use crate::used::{Used, either, none, only};
+use crate::used::Used;
 use calculus::{TermCell, TypeCell};
 use subtyping::{Core, TypeAt};
-use verdict::CheckFault;
+use verdict::{CheckFault, CheckReason};
 
 // The tests of a cell before its parts: the binders in scope, then the claims.
+#[inline(always)]
 fn enter(node: Node<'_>, scope: &Scope<'_>) -> Result<(), CheckFault>
     ensures { result ≡ entering node.entry.at (in_scope scope.now) (term_of node.entry) }
 {
     test_depth(node.cell(), node.at, scope.binders.len())?;
-    if !claims_agree(node, scope) {
-        return Err(CheckFault::WrongClaim(node.at));
-    }
-    Ok(())
+    CheckReason::WrongClaim.refuse_if(!claims_agree(node, scope), node.at)
 }
 
 // Judges a term under more binders, the outermost first, which are left again on every way out.
@@ -55,7 +53,7 @@ pub fn judge<'a>(node: Node<'a>, scope: &mut Scope<'a>) -> Result<Used, CheckFau
     enter(node, scope)?;
     let cell = node.cell();
     match cell.op {
-        'v' => Ok(only(scope.binders.len() - 1 - cell.argument as usize)),
+        'v' => Ok(Used::only(scope.binders.len() - 1 - cell.argument as usize)),
         'l' => {
             let (marks, core) = node.claim().take_apart();
             let Core::Arrow(binder, _) = core else {
@@ -71,22 +69,18 @@ pub fn judge<'a>(node: Node<'a>, scope: &mut Scope<'a>) -> Result<Used, CheckFau
         }
         'd' => {
             let pair = node.part(0);
-            let (marks, core) = pair.claim().take_apart();
-            let Core::Pair(outer, inner) = core else {
-                unreachable!()
-            };
+            let (outer, inner) = pair.claim().components().unwrap();
             let given = judge(pair, scope)?;
-            let binders = [outer.marked(marks), inner.marked(marks)];
-            let body = judge_under(node.part(1), &binders, scope)?;
+            let body = judge_under(node.part(1), &[outer, inner], scope)?;
             apart(scope, &given, &body, node.at)
         }
         'i' => {
             let condition = judge(node.part(0), scope)?;
             let then = judge(node.part(1), scope)?;
             let other = judge(node.part(2), scope)?;
-            apart(scope, &condition, &either(&then, &other), node.at)
+            apart(scope, &condition, &then.either(&other), node.at)
         }
-        _ => Ok(none()),
+        _ => Ok(Used::none()),
     }
 }
 

@@ -6,18 +6,16 @@ ghost use Rattle.checker.specs.Scoping.{depth, has, in_scope, used_below};
 ghost use Rattle.verdict.specs.Sharing.{apart, uncaptured};
 
 use crate::scope::{Scope, is_clear};
-use crate::used::{Used, either, shared};
-use verdict::CheckFault;
+use crate::used::Used;
+use verdict::{CheckFault, CheckReason};
 
 /// The binders that two parts use, where those that both use are duplicable.
 pub fn apart(scope: &Scope<'_>, left: &Used, right: &Used, at: usize) -> Result<Used, CheckFault>
     ensures verdict { verdict_of result ≡ apart at (in_scope scope.now) (used_below left.now (depth scope.now)) (used_below right.now (depth scope.now)) }
     ensures used { IfOk result (λ u. (k : ℕ) → k < 32 → has u k ≡ (has left.now k || has right.now k)) }
 {
-    if !is_clear(scope, &shared(left, right)) {
-        return Err(CheckFault::UsedTwice(at));
-    }
-    Ok(either(left, right))
+    CheckReason::UsedTwice.refuse_if(!is_clear(scope, &left.shared(right)), at)?;
+    Ok(left.either(right))
 }
 
 /// The binders that a function uses, where a duplicable function uses duplicable ones only.
@@ -30,8 +28,6 @@ pub fn uncaptured(
     ensures verdict { verdict_of result ≡ uncaptured at (in_scope scope.now) marks (used_below used (depth scope.now)) }
     ensures used { IfOk result (λ u. u ≡ used) }
 {
-    if marks > 0 && !is_clear(scope, &used) {
-        return Err(CheckFault::Captures(at));
-    }
+    CheckReason::Captures.refuse_if(marks > 0 && !is_clear(scope, &used), at)?;
     Ok(used)
 }

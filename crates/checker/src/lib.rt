@@ -11,4 +11,4 @@ mod tables;
 mod used;
 
 pub use accepting::{Accepted, check, checking_is_exact, worked_programs_are_judged};
-pub use verdict::CheckFault;
+pub use verdict::{CheckFault, CheckReason};

@@ -2,9 +2,10 @@
 
 ghost use Rattle.std.specs.Prelude.{◌≡◌};
 ghost use Rattle.std.specs.List.{slice_get};
+ghost use Rattle.std.specs.Option.{option_map};
 ghost use Rattle.calculus.specs.Letters.{letter};
 ghost use Rattle.checker.specs.Judging.{term_of};
-ghost use Rattle.checker.specs.Rules.{constant_of, own_fits, own_placed};
+ghost use Rattle.checker.specs.Rules.{constant_of, own_fits, own_type};
 ghost use Rattle.checker.specs.Scoping.{in_scope};
 ghost use Rattle.subtyping.specs.Meaning.{meant};
 ghost use Rattle.verdict.specs.Claims.{application_fits, claims_fit, condition_fits, function_fits, let_fits, pair_fits, unit_fits, variable_fits};
@@ -24,40 +25,49 @@ const ARROW: TypeCell = TypeCell { kind: '>' };
 
 const PAIR: TypeCell = TypeCell { kind: '*' };
 
-// The own types of the constants, one after the other: of bits, of `n`, of `m`, and of gates on one, two and three qubits.
+// The own types of the constants: of bits, of `n`, of `m`, and of gates on one, two and three qubits.
+static BIT_TYPE: [TypeCell; 2] = [MARK, BIT];
+
+static NEW_TYPE: [TypeCell; 4] = [MARK, ARROW, BIT, QUBIT];
+
+static MEASURE_TYPE: [TypeCell; 5] = [MARK, ARROW, QUBIT, MARK, BIT];
+
+static GATE_TYPE: [TypeCell; 4] = [MARK, ARROW, QUBIT, QUBIT];
+
 #[rattlefmt::skip]
-const OWN_TYPES: [TypeCell; 35] = [
-    MARK, BIT,
-    MARK, ARROW, BIT, QUBIT,
-    MARK, ARROW, QUBIT, MARK, BIT,
-    MARK, ARROW, QUBIT, QUBIT,
+static PAIR_GATE_TYPE: [TypeCell; 8] = [
     MARK, ARROW, PAIR, QUBIT, QUBIT, PAIR, QUBIT, QUBIT,
+];
+
+#[rattlefmt::skip]
+static TRIPLE_GATE_TYPE: [TypeCell; 12] = [
     MARK, ARROW, PAIR, QUBIT, PAIR, QUBIT, QUBIT, PAIR, QUBIT, PAIR, QUBIT, QUBIT,
 ];
 
-// Where the own type of a constant stands among them, or nothing for what is no constant.
-fn own_place(op: char, argument: u16) -> Option<usize>
-    ensures { result ≡ own_placed (constant_of (letter op) argument) }
+// The own type of a constant, or nothing for what is no constant.
+fn own_type(op: char, argument: u16) -> Option<TypeAt<'static>>
+    ensures { option_map meant result ≡ own_type (constant_of (letter op) argument) }
 {
-    match op {
-        '0' | '1' => Some(0),
-        'n' => Some(2),
-        'm' => Some(6),
+    let types: &'static [TypeCell] = match op {
+        '0' | '1' => &BIT_TYPE,
+        'n' => &NEW_TYPE,
+        'm' => &MEASURE_TYPE,
         'g' => match Gate::try_from(argument).ok()? {
-            Gate::H | Gate::X | Gate::Z | Gate::S | Gate::T => Some(11),
-            Gate::Cnot | Gate::Swap => Some(15),
-            Gate::Toffoli => Some(23),
+            Gate::H | Gate::X | Gate::Z | Gate::S | Gate::T => &GATE_TYPE,
+            Gate::Cnot | Gate::Swap => &PAIR_GATE_TYPE,
+            Gate::Toffoli => &TRIPLE_GATE_TYPE,
         },
-        _ => None,
-    }
+        _ => return None,
+    };
+    Some(TypeAt::new(types, 0))
 }
 
 // Whether the own type of a constant is a subtype of the claim.
 fn constant_fits(claim: TypeAt<'_>, op: char, argument: u16) -> bool
     ensures { result ≡ own_fits (constant_of (letter op) argument) (meant claim.entry) }
 {
-    match own_place(op, argument) {
-        Some(own) => TypeAt::new(&OWN_TYPES, own).is_subtype(claim),
+    match own_type(op, argument) {
+        Some(own) => own.is_subtype(claim),
         None => false,
     }
 }
@@ -66,27 +76,24 @@ fn constant_fits(claim: TypeAt<'_>, op: char, argument: u16) -> bool
 fn variable_fits(claim: TypeAt<'_>, above: usize, scope: &Scope<'_>) -> bool
     ensures { result ≡ variable_fits (slice_get (in_scope scope.now) above) (meant claim.entry) }
 {
-    let depth = scope.binders.len();
-    if above >= depth {
-        return false;
+    match scope.binders.iter().rev().nth(above) {
+        Some(binder) => binder.is_subtype(claim),
+        None => false,
     }
-    scope.binders[depth - 1 - above].is_subtype(claim)
 }
 
 // Whether the claim is the unit type after any marks.
 fn unit_fits(claim: TypeAt<'_>) -> bool
     ensures { result ≡ unit_fits (meant claim.entry) }
 {
-    let (_, core) = claim.take_apart();
-    matches!(core, Core::Unit)
+    matches!(claim.take_apart().1, Core::Unit)
 }
 
 // Whether the claim is an arrow after any marks, and the body claims its result.
 fn function_fits(claim: TypeAt<'_>, body: TypeAt<'_>) -> bool
     ensures { result ≡ function_fits (meant claim.entry) (meant body.entry) }
 {
-    let (_, core) = claim.take_apart();
-    match core {
+    match claim.take_apart().1 {
         Core::Arrow(_, to) => to.is_same(body),
         _ => false,
     }
@@ -105,15 +112,11 @@ fn application_fits(claim: TypeAt<'_>, function: TypeAt<'_>, argument: TypeAt<'_
 
 // Whether the claim is a pair after any marks, and the parts claim its parts, each after the same marks.
 fn pair_fits(claim: TypeAt<'_>, left: TypeAt<'_>, right: TypeAt<'_>) -> bool
-    requires { claim.marks ≡ 0 }
     ensures { result ≡ pair_fits (meant claim.entry) (meant left.entry) (meant right.entry) }
 {
-    let (marks, core) = claim.take_apart();
-    match core {
-        Core::Pair(first, second) => {
-            left.is_same(first.marked(marks)) && right.is_same(second.marked(marks))
-        }
-        _ => false,
+    match claim.components() {
+        Some((first, second)) => left.is_same(first) && right.is_same(second),
+        None => false,
     }
 }
 
@@ -133,11 +136,7 @@ fn condition_fits(
 fn let_fits(claim: TypeAt<'_>, given: TypeAt<'_>, body: TypeAt<'_>) -> bool
     ensures { result ≡ let_fits (meant claim.entry) (meant given.entry) (meant body.entry) }
 {
-    let (_, core) = given.take_apart();
-    match core {
-        Core::Pair(..) => body.is_same(claim),
-        _ => false,
-    }
+    given.components().is_some() && body.is_same(claim)
 }
 
 /// Whether the cell of a term and its parts claim what the typing rule of its letter asks.

@@ -10,7 +10,7 @@ use crate::used::Used;
 use arrayvec::ArrayVec;
 use calculus::{MOST_BINDERS, TermCell};
 use subtyping::TypeAt;
-use verdict::CheckFault;
+use verdict::{CheckFault, CheckReason};
 
 /// The types of the binders in scope, the outermost first.
 #[derive(Drop)]
@@ -60,17 +60,13 @@ fn binders_of(op: char) -> usize
 }
 
 /// The tests of a cell that need only the number of binders in scope.
+#[inline(always)]
 pub fn test_depth(cell: TermCell, at: usize, depth: usize) -> Result<(), CheckFault>
     requires { depth ≤ 32 }
     ensures { result ≡ depth_tested at cell.op cell.argument depth }
 {
-    if depth + binders_of(cell.op) > MOST_BINDERS {
-        return Err(CheckFault::TooDeep(at));
-    }
-    if cell.op == 'v' && (cell.argument as usize) >= depth {
-        return Err(CheckFault::NoBinder(at));
-    }
-    Ok(())
+    CheckReason::TooDeep.refuse_if(depth + binders_of(cell.op) > MOST_BINDERS, at)?;
+    CheckReason::NoBinder.refuse_if(cell.op == 'v' && (cell.argument as usize) >= depth, at)
 }
 
 // Whether the values of a type may be copied.
@@ -84,10 +80,9 @@ fn is_duplicable(binder: TypeAt<'_>) -> bool
 pub fn is_clear(scope: &Scope<'_>, used: &Used) -> bool
     ensures { result ≡ all_duplicable (in_scope scope.now) (used_below used.now (depth scope.now)) }
 {
-    for (level, binder) in scope.binders.iter().enumerate() {
-        if used.levels[level] && !is_duplicable(*binder) {
-            return false;
-        }
-    }
-    true
+    scope
+        .binders
+        .iter()
+        .zip(&used.levels)
+        .all(|(binder, is_used)| !*is_used || is_duplicable(*binder))
 }

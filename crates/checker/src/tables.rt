@@ -4,36 +4,24 @@ ghost use Rattle.std.specs.Prelude.{◌≡◌};
 ghost use Rattle.checker.specs.Tables.{tables_tested};
 
 use calculus::{MOST_TERM_CELLS, MOST_TYPE_CELLS, TermCell, TypeCell, is_allowed, kind_parts};
-use trees::{count, first_failing, reach};
-use verdict::CheckFault;
+use trees::{count, first_failing, not_one_tree};
+use verdict::{CheckFault, CheckReason};
 
 /// The tests of both tables as wholes.
 pub fn test_tables(types: &[TypeCell], terms: &[TermCell]) -> Result<(), CheckFault>
     ensures { result ≡ tables_tested types.now terms.now }
 {
-    if types.len() > MOST_TYPE_CELLS {
-        return Err(CheckFault::TooManyCells(MOST_TYPE_CELLS));
-    }
-    if terms.len() > MOST_TERM_CELLS {
-        return Err(CheckFault::TooManyCells(MOST_TERM_CELLS));
-    }
-    if let Some(cell) = first_failing(types, |cell| kind_parts(cell.kind).is_some()) {
-        return Err(CheckFault::BadCell(cell));
-    }
-    if let Some(cell) = first_failing(terms, |cell| is_allowed(cell) && cell.op != 'q') {
-        return Err(CheckFault::BadCell(cell));
-    }
-    if count(types).is_none() {
-        return Err(CheckFault::NotWhole(0));
-    }
-    let Some(end) = reach(terms, 0) else {
-        return Err(CheckFault::NotWhole(0));
-    };
-    if end != terms.len() {
-        return Err(CheckFault::NotWhole(end));
-    }
-    if let Some(cell) = first_failing(terms, |cell| (cell.claim as usize) < types.len()) {
-        return Err(CheckFault::ClaimOutside(cell));
-    }
-    Ok(())
+    CheckReason::TooManyCells.refuse_if(types.len() > MOST_TYPE_CELLS, MOST_TYPE_CELLS)?;
+    CheckReason::TooManyCells.refuse_if(terms.len() > MOST_TERM_CELLS, MOST_TERM_CELLS)?;
+    CheckReason::BadCell.refuse_at(first_failing(types, |cell| kind_parts(cell.kind).is_some()))?;
+    CheckReason::BadCell.refuse_at(first_failing(
+        terms,
+        |cell| is_allowed(cell) && cell.op != 'q',
+    ))?;
+    CheckReason::NotWhole.refuse_if(count(types).is_none(), 0)?;
+    CheckReason::NotWhole.refuse_at(not_one_tree(terms))?;
+    CheckReason::ClaimOutside.refuse_at(first_failing(
+        terms,
+        |cell| (cell.claim as usize) < types.len(),
+    ))
 }

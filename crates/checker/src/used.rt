@@ -12,45 +12,47 @@ pub struct Used {
     pub levels: [bool; MOST_BINDERS],
 }
 
-/// No level.
-pub fn none() -> Used
-    ensures { result.levels ≡ replicate 32 false }
-{
-    Used {
-        levels: [false; MOST_BINDERS],
+impl Used {
+    /// No level.
+    pub fn none() -> Used
+        ensures { result.levels ≡ replicate 32 false }
+    {
+        Used {
+            levels: [false; MOST_BINDERS],
+        }
     }
-}
 
-/// One level.
-pub fn only(level: usize) -> Used
-    requires { level < 32 }
-    ensures { result.levels ≡ slice_set (replicate 32 false) level true }
-{
-    let mut used = none();
-    used.levels[level] = true;
-    used
-}
-
-// The levels of two sets, joined one by one.
-fn joined<F: Fn(bool, bool) -> bool>(a: &Used, b: &Used, join: F) -> Used
-    requires { F.IsAlwaysCallable join }
-    ensures { (k : ℕ) → k < 32 → F.post join (has a.now k) (has b.now k) (has result k) }
-{
-    Used {
-        levels: from_fn(|level| join(a.levels[level], b.levels[level])),
+    /// One level.
+    pub fn only(level: usize) -> Used
+        requires { level < 32 }
+        ensures { result.levels ≡ slice_set (replicate 32 false) level true }
+    {
+        let mut used = Used::none();
+        used.levels[level] = true;
+        used
     }
-}
 
-/// The levels of one set or the other.
-pub fn either(a: &Used, b: &Used) -> Used
-    ensures { (k : ℕ) → k < 32 → has result k ≡ (has a.now k || has b.now k) }
-{
-    joined(a, b, |in_a, in_b| in_a | in_b)
-}
+    // The levels of two sets, joined one by one.
+    fn joined<F: Fn(bool, bool) -> bool>(&self, other: &Used, join: F) -> Used
+        requires { F.IsAlwaysCallable join }
+        ensures { (k : ℕ) → k < 32 → F.post join (has self.now k) (has other.now k) (has result k) }
+    {
+        Used {
+            levels: from_fn(|level| join(self.levels[level], other.levels[level])),
+        }
+    }
 
-/// The levels of both sets.
-pub fn shared(a: &Used, b: &Used) -> Used
-    ensures { (k : ℕ) → k < 32 → has result k ≡ (has a.now k && has b.now k) }
-{
-    joined(a, b, |in_a, in_b| in_a & in_b)
+    /// The levels of one set or the other.
+    pub fn either(&self, other: &Used) -> Used
+        ensures { (k : ℕ) → k < 32 → has result k ≡ (has self.now k || has other.now k) }
+    {
+        self.joined(other, |here, there| here | there)
+    }
+
+    /// The levels of both sets.
+    pub fn shared(&self, other: &Used) -> Used
+        ensures { (k : ℕ) → k < 32 → has result k ≡ (has self.now k && has other.now k) }
+    {
+        self.joined(other, |here, there| here & there)
+    }
 }

@@ -1,3 +1,4 @@
+pub mod Components
 pub mod Pairing
 pub mod Parted
 pub mod Places

@@ -7,11 +7,10 @@ use Rattle.calculus.specs.Reading.{type_at}
 use Rattle.calculus.specs.Stripping.{marks}
 use Rattle.calculus.specs.Types.{Ty, arrow, tensor}
 use Rattle.subtyping.specs.declared.placed.TypeAt.{TypeAt}
-use Rattle.subtyping.specs.declared.relating.Relation.{Relation}
 use Rattle.subtyping.specs.Letters.{kind_of}
 use Rattle.subtyping.specs.Meaning.{meant, past, Bare, Stripped}
 use Rattle.subtyping.specs.Placing.{type_end}
-use Rattle.subtyping.specs.Relating.{related, marks_agree, related_at}
+use Rattle.subtyping.specs.Relating.{Asked, related, marks_agree, related_at}
 use Rattle.subtyping.proofs.Places.{Joins, arrow_here, pair_here, stands, Strips, strips}
 use Rattle.subtyping.proofs.Related.{related_marked, core_bare, related_arrows, related_pairs, unlike, unmarked, alike_leaves}
 
@@ -24,7 +23,7 @@ cond_and true w s n = refl
 cond_and false w s n = refl
 
 -- one past the types at two places, where they have the relation
-abbrev at_places : Relation → List TypeCell → ℕ → List TypeCell → ℕ → Option (ℕ × ℕ)
+abbrev at_places : Asked → List TypeCell → ℕ → List TypeCell → ℕ → Option (ℕ × ℕ)
 at_places r cs p ds q = cond (related r (type_at cs p) (type_at ds q)) (Some (type_end cs p, type_end ds q)) None
 
 chosen : {A : Type 0} (v : Bool) (z w : A) → Some w ≡ cond v (Some z) None → (v ≡ true) × (w ≡ z)
@@ -36,7 +35,7 @@ refused true z e = cc
 refused false z e = refl
 
 -- what the answer for two parts tells
-module _ (r : Relation) (cs ds : List TypeCell) (i j : ℕ) (a b : TypeAt) (h : Bare cs i a) (k : Bare ds j b) where
+module _ (r : Asked) (cs ds : List TypeCell) (i j : ℕ) (a b : TypeAt) (h : Bare cs i a) (k : Bare ds j b) where
   at_bare : related_at r a b ≡ at_places r cs i ds j
   at_bare =
       let s = stands cs i a h in
@@ -59,7 +58,7 @@ go : {A : Type 0} (v : Bool) (w z : Option A) → z ≡ cond v w None → v ≡ 
 go true w z e f = sym e
 go false w z e f = absurd (both_ways false refl f)
 
-module _ (r : Relation) (a b : TypeAt) (u v : ℕ × TypeAt) (ha : Stripped a u) (hb : Stripped b v) where
+module _ (r : Asked) (a b : TypeAt) (u v : ℕ × TypeAt) (ha : Stripped a u) (hb : Stripped b v) where
   sa : Strips a u.0 u.1
   sa = strips a u ha
 

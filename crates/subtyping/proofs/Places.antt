@@ -1,5 +1,6 @@
 -- What stands at the places of a whole table: the parts of a type, its letter, its marks and its end.
-use Rattle.std.proofs.Common.{◌≡◌, ℕ, zero, suc, ◌+◌, ◌-◌, ◌<◌, ◌≤◌, ◌⊎◌, List, [], ◌∷◌, ◌++◌, length, get_or, drop, sym, refl, ap, ◌∙◌, subst, ap₂, inl, inr, add-zero, arith}
+use Rattle.std.proofs.Common.{◌≡◌, ℕ, zero, suc, ◌+◌, ◌-◌, ◌<◌, ◌≤◌, ◌⊎◌, Bool, eqb, List, [], ◌∷◌, ◌++◌, length, get_or, drop, sym, refl, ap, ◌∙◌, subst, ap₂, inl, inr, add-zero, arith}
+use Rattle.std.specs.List.{prefix_len}
 use Rattle.std.proofs.lemmas.List.{append_assoc, length-append, length-drop, drop_more}
 use Rattle.calculus.specs.declared.cells.TypeCell.{TypeCell}
 use Rattle.calculus.specs.Cells.{type_cells}
@@ -12,7 +13,7 @@ use Rattle.subtyping.specs.declared.placed.TypeAt.{TypeAt}
 use Rattle.subtyping.specs.Letters.{kind_of}
 use Rattle.subtyping.specs.Meaning.{standing, meant, past, Bare, Stripped}
 use Rattle.subtyping.specs.Placing.{type_end}
-use Rattle.subtyping.proofs.Related.{arrow_by_kind, pair_by_kind, marked_by_kind}
+use Rattle.subtyping.proofs.Related.{arrow_by_kind, pair_by_kind}
 
 pub some_cells : (a : Ty) → 0 < length (type_cells a)
 some_cells bit = omega arith
@@ -50,17 +51,6 @@ at_two : (k : ℕ) (cs : List TypeCell) (p : ℕ) (a b : Ty) (ds : List TypeCell
 at_two k cs p a b ds e =
     let f = after cs (record { kind = k } ∷ []) (type_cells a ++ (type_cells b ++ ds)) p 1 (e ∙ ap (λ (xs : List TypeCell). record { kind = k } ∷ xs) (append_assoc (type_cells a) (type_cells b) ds)) refl in
     ((type_cells b ++ ds, f), (ds, after cs (type_cells a) (type_cells b ++ ds) (p + 1) (length (type_cells a)) f refl))
-
--- A marked type stands one place before the type that it marks.
-pub record Marks (cs : List TypeCell) (p : ℕ) : Type 0 where
-  pub is : type_at cs p ≡ bang (type_at cs (p + 1))
-  pub inside : p + 1 < length cs
-
-pub marked_here : (cs : List TypeCell) (p : ℕ) → TypesStand cs → p < length cs → kind_of (type_at cs p) ≡ 33 → Marks cs p
-marked_here cs p h l k =
-    let m = marked_by_kind (type_at cs p) k in
-    let below = at_marked cs p m.0 (subst (At cs p) m.1 (at_place cs p h l)) in
-    record { is = m.1 ∙ ap bang (sym (at_is cs (p + 1) m.0 below)); inside = omega (arith, at_room cs (p + 1) m.0 below, some_cells m.0) }
 
 -- The two parts of a type stand one after the other, from the place after it.
 pub record Joins (cs : List TypeCell) (p : ℕ) (join : Ty → Ty → Ty) : Type 0 where
@@ -125,6 +115,27 @@ core_length unit = refl
 core_length (bang a) = omega (arith, core_length a)
 core_length (arrow a b) = omega arith
 core_length (tensor a b) = omega arith
+
+-- the cell of a mark
+abbrev pub is_mark : TypeCell → Bool
+is_mark c = eqb c.kind 33
+
+leading_marks : (a : Ty) (ds : List TypeCell) → prefix_len is_mark (type_cells a ++ ds) ≡ marks a
+leading_marks bit ds = refl
+leading_marks qbit ds = refl
+leading_marks unit ds = refl
+leading_marks (bang a) ds = omega (arith, leading_marks a ds)
+leading_marks (arrow a b) ds = refl
+leading_marks (tensor a b) ds = refl
+
+-- the marks of the type at a place are the leading cells from there, and what they stand before is of the table too
+pub marks_here : (cs : List TypeCell) (p : ℕ) → TypesStand cs → p < length cs → prefix_len is_mark (drop p cs) ≡ marks (type_at cs p)
+marks_here cs p h l = let at = at_place cs p h l in ap (prefix_len is_mark) at.1 ∙ leading_marks (type_at cs p) at.0
+
+pub core_within : (cs : List TypeCell) (p : ℕ) → TypesStand cs → p < length cs → p + marks (type_at cs p) < length cs
+core_within cs p h l =
+    let t = type_at cs p in
+    omega (arith, at_room cs (p + marks t) (core t) (at_core cs p t (at_place cs p h l)), some_cells (core t))
 
 pub core_bangs : (n : ℕ) (a : Ty) → core (bangs n a) ≡ core a
 core_bangs zero a = refl

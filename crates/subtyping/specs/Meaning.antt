@@ -25,6 +25,12 @@ pub record Bare (types : List TypeCell) (place : ℕ) (a : TypeAt) : Type 0 wher
   pub no_marks : a.marks ≡ 0
   pub same_place : a.place ≡ place
 
+-- So many marks, before the type at this place of the table.
+pub record Marked (types : List TypeCell) (marks place : ℕ) (a : TypeAt) : Type 0 where
+  pub same_table : a.types.now ≡ types
+  pub same_marks : a.marks ≡ marks
+  pub same_place : a.place ≡ place
+
 -- All the leading marks of the type are counted, and the place after them is found.
 pub record Stripped (a : TypeAt) (answer : ℕ × TypeAt) : Type 0 where
   pub count : answer.0 ≡ a.marks + marks (standing a)

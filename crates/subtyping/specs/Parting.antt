@@ -1,9 +1,9 @@
 -- Types taken apart where they stand.
 use Rattle.std.specs.Prelude.{◌≡◌, ℕ, ◌+◌, ◌≤◌, List}
 use Rattle.calculus.specs.declared.cells.TypeCell.{TypeCell}
-use Rattle.calculus.specs.Stripping.{marks}
+use Rattle.calculus.specs.Stripping.{marks, left_of, right_of}
 use Rattle.calculus.specs.Types.{Ty, bit, qbit, unit, arrow, tensor, bangs}
-use Rattle.subtyping.specs.Meaning.{meant, past, standing, Bare}
+use Rattle.subtyping.specs.Meaning.{meant, past, standing, Bare, Marked}
 use Rattle.subtyping.specs.declared.parting.Core.{Core}
 use Rattle.subtyping.specs.declared.parting.Core.TheVariants.{Bit, Qubit, Unit as Empty, Arrow, Pair}
 use Rattle.subtyping.specs.declared.placed.TypeAt.{TypeAt}
@@ -35,3 +35,10 @@ pub record Apart (a : TypeAt) (answer : ℕ × Core) : Type 0 where
   pub count : answer.0 ≡ a.marks + marks (standing a)
   pub few : answer.0 ≤ a.marks + 255
   pub parts : PartsAt a.types.now (a.place + marks (standing a)) answer.1
+
+-- The components of a pair, each after all the marks of the whole; they are where they stand.
+pub record Components (a left right : TypeAt) : Type 0 where
+  pub left_is : meant left ≡ left_of (meant a)
+  pub right_is : meant right ≡ right_of (meant a)
+  pub left_at : Marked a.types.now (a.marks + marks (standing a)) (a.place + marks (standing a) + 1) left
+  pub right_at : Marked a.types.now (a.marks + marks (standing a)) (past left) right

@@ -1,10 +1,11 @@
 //! Types of a table taken apart: marks, and what stands after them.
 
-ghost use Rattle.std.specs.Prelude.{◌≡◌, ◌+◌, ◌≤◌, ◌⊎◌};
+ghost use Rattle.std.specs.Prelude.{◌≡◌, ◌+◌, ◌≤◌, ◌⊎◌, is_some, IfSome};
+ghost use Rattle.calculus.specs.Stripping.{is_tensor};
 ghost use Rattle.calculus.specs.Types.{bangs};
 ghost use Rattle.subtyping.specs.Letters.{kind_of};
 ghost use Rattle.subtyping.specs.Meaning.{meant, past, standing};
-ghost use Rattle.subtyping.specs.Parting.{Apart, PartsStand};
+ghost use Rattle.subtyping.specs.Parting.{Apart, Components, PartsStand};
 
 use crate::placed::TypeAt;
 use trees::reach;
@@ -57,9 +58,9 @@ impl<'a> TypeAt<'a> {
         (marks, core)
     }
 
-    /// The type with so many more marks in front of it.
-    pub fn marked(self, marks: usize) -> TypeAt<'a>
-        requires { self.marks + marks ≤ 256 }
+    // The type with so many more marks in front of it.
+    fn marked(self, marks: usize) -> TypeAt<'a>
+        requires { self.marks + marks ≤ 256 + self.place }
         ensures count { result.marks ≡ self.entry.marks + marks }
         ensures stands { (result.types.now ≡ self.entry.types.now) × (result.place ≡ self.entry.place) }
         ensures meant { meant result ≡ bangs marks (meant self.entry) }
@@ -68,6 +69,18 @@ impl<'a> TypeAt<'a> {
             types: self.types,
             marks: self.marks + marks,
             place: self.place,
+        }
+    }
+
+    /// The components of a pair, each after the marks of the whole, or nothing for what is no pair.
+    pub fn components(self) -> Option<(TypeAt<'a>, TypeAt<'a>)>
+        ensures pair { is_some result ≡ is_tensor (meant self.entry) }
+        ensures components { IfSome result (λ p. Components self.entry p.0 p.1) }
+    {
+        let (marks, core) = self.take_apart();
+        match core {
+            Core::Pair(left, right) => Some((left.marked(marks), right.marked(marks))),
+            _ => None,
         }
     }
 }

@@ -1,20 +1,44 @@
 //! Equality and subtyping of types that stand in tables.
 
 ghost use Rattle.std.specs.Prelude.{◌≡◌, ◌+◌, ◌<◌, length};
-ghost use Rattle.calculus.specs.Stripping.{same, subtype};
+ghost use Rattle.calculus.specs.Stripping.{marks, same, subtype};
 ghost use Rattle.subtyping.specs.Letters.{kind_of};
-ghost use Rattle.subtyping.specs.Meaning.{Bare, Stripped, meant};
+ghost use Rattle.subtyping.specs.Meaning.{Bare, Stripped, meant, standing};
 ghost use Rattle.subtyping.specs.Placing.{Placed};
-ghost use Rattle.subtyping.specs.Relating.{marks_agree, related_at};
+ghost use Rattle.subtyping.specs.Relating.{Asked, equality, subtyping, marks_agree, related_at};
 
 use crate::placed::TypeAt;
 use calculus::TypeCell;
 
 /// What is asked of two types.
-#[derive(Clone, Copy, Drop)]
-enum Relation {
-    Equal,
-    Subtype,
+pub trait Relation {
+    ghost asked: { Asked };
+
+    // Whether so many marks before a type go with so many before the other.
+    fn marks_agree(left: usize, right: usize) -> bool
+        ensures { result ≡ marks_agree asked left right };
+}
+
+/// They are equal.
+pub struct Equal;
+
+impl Relation for Equal {
+    ghost asked = { equality };
+
+    fn marks_agree(left: usize, right: usize) -> bool {
+        left == right
+    }
+}
+
+/// The first is a subtype of the second.
+pub struct Subtype;
+
+impl Relation for Subtype {
+    ghost asked = { subtyping };
+
+    fn marks_agree(left: usize, right: usize) -> bool {
+        right == 0 || left > 0
+    }
 }
 
 impl<'a> TypeAt<'a> {
@@ -56,62 +80,58 @@ impl<'a> TypeAt<'a> {
         self.types[self.place].kind
     }
 
-    /// All the leading marks counted, and the type after them.
-    pub fn strip(self) -> (usize, TypeAt<'a>)
+    // The leading marks that stand in the table, counted.
+    fn standing_marks(self) -> usize
+        ensures count { result ≡ marks (standing self.entry) }
+        ensures within { self.entry.place + result < length self.entry.types.now }
+    {
+        self.types[self.place..]
+            .iter()
+            .take_while(|cell| cell.kind == '!')
+            .count()
+    }
+
+    // All the leading marks counted, and the type after them.
+    pub(crate) fn strip(self) -> (usize, TypeAt<'a>)
         ensures { Stripped self.entry result }
     {
-        let mut marks = self.marks;
-        let mut place = self.place;
-        while self.types[place].kind == '!' {
-            marks += 1;
-            place += 1;
-        }
-        (marks, self.at(place))
+        let marks = self.standing_marks();
+        (self.marks + marks, self.at(self.place + marks))
     }
 
     /// Whether two types are equal.
     pub fn is_same(self, other: TypeAt<'_>) -> bool
         ensures { result ≡ same (meant self.entry) (meant other.entry) }
     {
-        relate(Relation::Equal, self, other).is_some()
+        relate::<Equal>(self, other).is_some()
     }
 
     /// Whether the type is a subtype of another, which may stand in another table.
     pub fn is_subtype(self, other: TypeAt<'_>) -> bool
         ensures { result ≡ subtype (meant self.entry) (meant other.entry) }
     {
-        relate(Relation::Subtype, self, other).is_some()
-    }
-}
-
-// Whether so many marks before a type go with so many before the other.
-fn marks_agree(relation: Relation, left: usize, right: usize) -> bool
-    ensures { result ≡ marks_agree relation left right }
-{
-    match relation {
-        Relation::Equal => left == right,
-        Relation::Subtype => right == 0 || left > 0,
+        relate::<Subtype>(self, other).is_some()
     }
 }
 
 // One past both types where the first has the relation to the second, or nothing.
-fn relate(relation: Relation, left: TypeAt<'_>, right: TypeAt<'_>) -> Option<(usize, usize)>
-    ensures { result ≡ related_at relation left.entry right.entry }
+fn relate<R: Relation>(left: TypeAt<'_>, right: TypeAt<'_>) -> Option<(usize, usize)>
+    ensures { result ≡ related_at R.asked left.entry right.entry }
 {
     let (left_marks, left) = left.strip();
     let (right_marks, right) = right.strip();
     let kind = left.kind();
-    if !marks_agree(relation, left_marks, right_marks) || kind != right.kind() {
+    if !R::marks_agree(left_marks, right_marks) || kind != right.kind() {
         return None;
     }
     match kind {
         '>' => {
-            let (right_end, left_end) = relate(relation, right.next(), left.next())?;
-            relate(relation, left.at(left_end), right.at(right_end))
+            let (right_end, left_end) = relate::<R>(right.next(), left.next())?;
+            relate::<R>(left.at(left_end), right.at(right_end))
         }
         '*' => {
-            let (left_end, right_end) = relate(relation, left.next(), right.next())?;
-            relate(relation, left.at(left_end), right.at(right_end))
+            let (left_end, right_end) = relate::<R>(left.next(), right.next())?;
+            relate::<R>(left.at(left_end), right.at(right_end))
         }
         _ => Some((left.place + 1, right.place + 1)),
     }

@@ -1,17 +1,18 @@
-use Rattle.std.proofs.Common.{◌≡◌, ◌+◌, ◌-◌, ◌∷◌, ◌⊎◌, false, true, replicate, slice_set, sym, ap, ◌∙◌, subst, ap₂, arith}
+use Rattle.std.proofs.Common.{◌≡◌, ◌+◌, ◌-◌, ◌∷◌, ◌⊎◌, false, true, replicate, slice_set, sym, ap, ◌∙◌, subst, ap₂, arith, rules, IfSome}
 use Rattle.std.proofs.lemmas.Result.{IfOk-weaker}
 use Rattle.calculus.specs.Terms.{bound, under}
-use Rattle.calculus.specs.Stripping.{first, left_of, marks, right_of}
+use Rattle.calculus.specs.Stripping.{first, marks}
 use Rattle.calculus.specs.declared.cells.TermCell.{TermCell}
 use Rattle.checker.specs.Judging.{term_of}
 use Rattle.checker.specs.Scoping.{UsesOf, depth, in_scope, used_below}
+use Rattle.subtyping.specs.Parting.{Components}
 use Rattle.verdict.specs.Sharing.{uncaptured}
 use Rattle.verdict.specs.Uses.{uses}
 use Rattle.verdict.specs.Judging.{verdict_from}
 use Rattle.checker.proofs.Entering.{unused}
-use Rattle.checker.proofs.Fits.{arrow_first, arrow_marks, left_is, right_is}
+use Rattle.checker.proofs.Fits.{arrow_first, arrow_marks}
 use Rattle.checker.proofs.Nodes.{letter_is}
-use Rattle.checker.proofs.Parts.{then_go, then_refused, told, verdict_in, uses_in, deep, lam_verdict, lam_uses, not_no_arrow, two_parts, let_parts, not_no_pair, second_refused, two_left, two_shows, if_parts, then_branch_refused, else_branch_refused, three_left, three_shows, branches_show, var_bound, var_shows}
+use Rattle.checker.proofs.Parts.{then_go, then_refused, told, verdict_in, uses_in, deep, lam_verdict, lam_uses, not_no_arrow, two_parts, let_parts, let_binders, given_pair, second_refused, two_left, two_shows, if_parts, then_branch_refused, else_branch_refused, three_left, three_shows, branches_show, var_bound, var_shows}
 use Rattle.checker.proofs.Showing.{shows_none, shows_outside, shows_outside_two, uncaptured_shows}
 use Rattle.checker.proofs.judging.+judge_judge_under.Goals as goal
 
@@ -86,18 +87,16 @@ judge-returns-in_ok-right-in-a-clause-used t c =
 
 -- d
 
-pub judge-unreachable-requires-in_default-core-2 : goal.judge-unreachable-requires-in_default-core-2
-judge-unreachable-requires-in_default-core-2 t c =
-    not_no_pair c.args.node c.args.scope.now c.in_ok-enter.ensures (letter_is c.cell-cell.ensures c.in-d.is) _ c.part-pair.ensures _ _ c.take_apart-marks-in-d.ensures c.claim-in-d.ensures.claimed c.in_default-core-2.not-Pair
+pub judge-unwrap-requires : goal.judge-unwrap-requires
+judge-unwrap-requires t c =
+    let pair = given_pair c.args.node c.args.scope.now c.in_ok-enter.ensures (letter_is c.cell-cell.ensures c.in-d.is) _ c.part-pair.ensures c.claim-in-d.result c.claim-in-d.ensures.claimed in
+    search (rules, pair, c.components.ensures.pair)
 
 pub judge-returns-in_err-body-in-d-clause-verdict : goal.judge-returns-in_err-body-in-d-clause-verdict
 judge-returns-in_err-body-in-d-clause-verdict t c =
     let w = let_parts c.args.node c.args.scope.now c.in_ok-enter.ensures _ _ c.part-pair.ensures c.part-in-d.ensures (letter_is c.cell-cell.ensures c.in-d.is) in
     let given = c.in_ok-given-in-d in
-    let claimed = c.claim-in-d.ensures.claimed in
-    let left = c.marked.ensures.meant ∙ left_is _ _ c.take_apart-marks-in-d.ensures _ _ c.in-Pair.is ∙ ap left_of claimed in
-    let right = c.marked-in-d.ensures.meant ∙ right_is _ _ c.take_apart-marks-in-d.ensures _ _ c.in-Pair.is ∙ ap right_of claimed in
-    let bs = ap₂ (λ b bs. b ∷ bs) right (ap₂ (λ b s. b ∷ in_scope s) left given.ensures.kept) in
+    let bs = let_binders c.claim-in-d.result _ _ _ c.args.scope.now _ (subst (λ o. IfSome o (λ p. Components c.claim-in-d.result p.0 p.1)) c.unwrap.ensures c.components.ensures.components) c.claim-in-d.ensures.claimed given.ensures.kept in
     told _ _ c.from_residual-in_err-body-in-d.ensures.1
     ∙ second_refused _ _ _ _ _ _ _ w _ given.ensures.verdict (c.in_err-body-in-d.ensures.verdict ∙ ap (λ bs. verdict_from c.part-in-d.result.at bs (term_of c.part-in-d.result)) bs)
 
@@ -105,10 +104,7 @@ pub judge-returns-in_ok-body-in-d-clause-verdict : goal.judge-returns-in_ok-body
 judge-returns-in_ok-body-in-d-clause-verdict t c =
     let w = let_parts c.args.node c.args.scope.now c.in_ok-enter.ensures _ _ c.part-pair.ensures c.part-in-d.ensures (letter_is c.cell-cell.ensures c.in-d.is) in
     let given = c.in_ok-given-in-d in
-    let claimed = c.claim-in-d.ensures.claimed in
-    let left = c.marked.ensures.meant ∙ left_is _ _ c.take_apart-marks-in-d.ensures _ _ c.in-Pair.is ∙ ap left_of claimed in
-    let right = c.marked-in-d.ensures.meant ∙ right_is _ _ c.take_apart-marks-in-d.ensures _ _ c.in-Pair.is ∙ ap right_of claimed in
-    let bs = ap₂ (λ b bs. b ∷ bs) right (ap₂ (λ b s. b ∷ in_scope s) left given.ensures.kept) in
+    let bs = let_binders c.claim-in-d.result _ _ _ c.args.scope.now _ (subst (λ o. IfSome o (λ p. Components c.claim-in-d.result p.0 p.1)) c.unwrap.ensures c.components.ensures.components) c.claim-in-d.ensures.claimed given.ensures.kept in
     let s = c.args.scope.now in
     let body = c.in_ok-body-in-d in
     let shown = shows_outside_two body.body (depth s) (uses (term_of c.part-in-d.result)) (subst (λ t. UsesOf body.body (depth t + 2) (term_of c.part-in-d.result)) given.ensures.kept body.ensures.used) in

@@ -8,10 +8,6 @@ returns-in_err-test_depth c =
     let p = err_from_is_err_and c.from_residual.result c.from_residual.ensures.1 in
     p.1 ∙ ap Err p.2 ∙ depth_refused c.args.node c.args.scope.now c.in_err-test_depth.field-0.0 _ _ c.cell.ensures c.len.ensures.value c.in_err-test_depth.ensures
 
-pub returns-then-not-claims_agree : goal.returns-then-not-claims_agree
-returns-then-not-claims_agree c =
-    claims_tested c.args.node c.args.scope.now _ _ _ c.cell.ensures c.len.ensures.value c.in_ok-test_depth.ensures c.if-not-claims_agree.ensures
-
 pub returns : goal.returns
 returns c =
-    claims_tested c.args.node c.args.scope.now _ _ _ c.cell.ensures c.len.ensures.value c.in_ok-test_depth.ensures c.if-not-claims_agree.ensures
+    c.refuse_if.ensures ∙ claims_tested c.args.node c.args.scope.now _ _ _ c.cell.ensures c.len.ensures.value c.in_ok-test_depth.ensures c.claims_agree.ensures

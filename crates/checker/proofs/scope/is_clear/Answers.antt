@@ -1,33 +1,14 @@
-use Rattle.std.proofs.Common.{◌≡◌, ◌<◌, length, get_or, sym, ap, ◌∙◌, arith}
-use Rattle.calculus.specs.Stripping.{duplicable}
-use Rattle.subtyping.specs.Meaning.{meant}
-use Rattle.checker.proofs.Clearing.{clear_all, clear_duplicable, clear_unused, not_clear}
+use Rattle.std.proofs.Common.{◌≤◌, length, rules, tests, ap, ◌∙◌}
+use Rattle.std.proofs.lemmas.Iterator.{YieldsList-from_slice, YieldsList-from_zip}
+use Rattle.std.proofs.lemmas.Iterator.Search.{all_from_yields_List}
+use Rattle.checker.proofs.Clearing.{may_stay, by_levels}
 use Rattle.checker.proofs.scope.is_clear.Goals as goal
-use Rattle.checker.proofs.scope.is_clear.Goals.{else-used-level-via-then-used-level+else-not-is_duplicable, else-used-level-via-else-used-level}
-
-pub returns-then-not-is_duplicable : goal.returns-then-not-is_duplicable
-returns-then-not-is_duplicable c =
-    let bs = c.args.scope.now.binders.items in
-    let b = c.binder-item.result in
-    let k = c.loop-level.level in
-    let is : b ≡ get_or bs k b = c.binder-item.is ∙ ap (λ xs. get_or xs k b) c.deref-binder-items.ensures.0 in
-    let l : k < length bs = omega (arith, c.loop-level-test.true, ap length c.deref-binder-items.ensures.0) in
-    sym (not_clear bs b c.args.used.now k l c.if-used-level.true (sym (ap (λ b. duplicable (meant b)) is) ∙ sym c.if-not-is_duplicable.ensures))
-
-pub loop-level-preserved : goal.loop-level-preserved
-loop-level-preserved c =
-    let bs = c.args.scope.now.binders.items in
-    let b = c.binder-item.result in
-    let k = c.loop-level.level in
-    let is : b ≡ get_or bs k b = c.binder-item.is ∙ ap (λ xs. get_or xs k b) c.deref-binder-items.ensures.0 in
-    let l : k < length bs = omega (arith, c.loop-level-test.true, ap length c.deref-binder-items.ensures.0) in
-    elim c.else-used-level.branch [
-      | else-used-level-via-then-used-level+else-not-is_duplicable w ↦ clear_duplicable bs b c.args.used.now k l (sym (ap (λ b. duplicable (meant b)) is) ∙ sym w.if-not-is_duplicable.ensures) c.loop-level.invariant
-      | else-used-level-via-else-used-level w ↦ clear_unused bs b c.args.used.now k l w.if-used-level.false c.loop-level.invariant
-    ]
 
 pub returns : goal.returns
 returns c =
     let bs = c.args.scope.now.binders.items in
-    let e : c.loop-level.level ≡ length bs = omega (arith, c.loop-level-test.false, c.loop-level.auto.level-end, ap length c.deref-binder-items.ensures.0) in
-    rw (sym (clear_all bs c.args.used.now)) (rw (sym e) (sym c.loop-level.invariant))
+    let room : length bs ≤ length c.args.used.now.levels = (let e = ap length c.deref.ensures.0 in let l = c.deref.ensures.1 in search rules) in
+    all_from_yields_List may_stay c.all.new.self _ c.all.result c.all.ensures.ran
+    (YieldsList-from_zip (YieldsList-from_slice bs (cc)) (YieldsList-from_slice c.args.used.now.levels (cc)))
+    (λ x b q k. search (rules, tests))
+    ∙ by_levels bs c.args.used.now room

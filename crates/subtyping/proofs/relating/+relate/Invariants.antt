@@ -3,4 +3,4 @@ use Rattle.subtyping.proofs.Places.{room}
 use Rattle.subtyping.proofs.relating.+relate.Given as goal
 
 abbrev pub decreases-relate : goal.decreases-relate
-decreases-relate l = room l.left + room l.right
+decreases-relate g l = room l.left + room l.right

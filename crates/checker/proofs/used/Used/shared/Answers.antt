@@ -1,5 +1,5 @@
 use Rattle.std.proofs.Common.{rules}
-use Rattle.checker.proofs.used.shared.Goals as goal
+use Rattle.checker.proofs.used.Used.shared.Goals as goal
 
 pub returns : goal.returns
 returns c = λ k l. let e = c.joined.ensures k l in search (rules, e)
