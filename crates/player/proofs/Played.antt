@@ -1,5 +1,6 @@
 -- A row that is played so far, and one turn more.
-use Rattle.std.specs.Prelude.{◌≡◌, ◌↔◌, ℕ, zero, suc, ◌+◌, ◌-◌, min, ◌<◌, ◌≤◌, true, List, [], ◌∷◌, ◌++◌, length, take, drop, None, Bool, false, cond, Some, Ok, Err, Option, Result, MatchResult, is_err}
+use Rattle.std.specs.Prelude.{◌≡◌, ◌↔◌, ℕ, zero, suc, ◌+◌, ◌<◌, ◌≤◌, true, List, [], ◌∷◌, ◌++◌, map, length, take, drop, None, Bool, false, cond, Some, Ok, Err, Option, Result, is_err}
+use Rattle.std.specs.Result.{IsErrAnd}
 use Rattle.std.proofs.Common.{ap, ◌∙◌, sym, refl, subst, inl, inr, get_or, set, arith}
 use Rattle.std.proofs.lemmas.List.{length-take-le, length-drop, take_all, take_more, drop_more}
 use Rattle.calculus.specs.declared.cells.TermCell.{TermCell}
@@ -21,9 +22,9 @@ use Rattle.controller.specs.declared.faults.Refusal.{Refusal}
 use Rattle.controller.specs.Shots.{Held, held, nothing_held, is_loaded}
 use Rattle.controller.specs.Keeping.{Kept, place_of}
 use Rattle.player.specs.declared.turns.Turn.{Turn}
-use Rattle.player.specs.declared.turns.Reply.{Reply}
-use Rattle.player.specs.declared.turns.Reply.TheVariants.{Loaded, Refused as RefusedReply}
-use Rattle.player.specs.Turns.{Rooms, rooms, IsMember, IsReply, LoadReply, NotPlayed, is_refused, LoadPlayed, TurnPlayed}
+use Rattle.player.specs.declared.turns.TurnFault.{TurnFault}
+use Rattle.player.specs.declared.turns.TurnFault.TheVariants.{Refused as RefusedTurn}
+use Rattle.player.specs.Turns.{Rooms, rooms, Reply, IsMember, IsReply, NotPlayed, is_refused, LoadPlayed, TurnPlayed}
 use Rattle.player.specs.Playing.{Played, none_played, not_accepted, one_played, first_place, RowPlayed}
 
 module _ {C : Type 0} {changes : Changes C} {r : Rooms} where
@@ -74,18 +75,18 @@ ended (suc n) at places row rest e f g =
     take_all at row all ∙ sym (take_all places row (omega arith))
 
 -- the next place of a table is written
-written : {A : Type 0} (told old : List A) (y : A) → length told < length old
-    → set (told ++ drop (length told) old) (length told) y ≡ (told ++ y ∷ []) ++ drop (length (told ++ y ∷ [])) old
+written : {A : Type 0} (told : List A) (old : List (Option A)) (y : A) → length told < length old
+    → set (map Some told ++ drop (length told) old) (length told) (Some y) ≡ map Some (told ++ y ∷ []) ++ drop (length (told ++ y ∷ [])) old
 written [] [] y l = absurd (omega arith)
 written [] (o ∷ os) y l = refl
 written (x ∷ xs) [] y l = absurd (omega arith)
-written (x ∷ xs) (o ∷ os) y l = let s : length xs < length os = omega arith in ap (λ zs. x ∷ zs) (written xs os y s)
+written (x ∷ xs) (o ∷ os) y l = let s : length xs < length os = omega arith in ap (λ zs. Some x ∷ zs) (written xs os y s)
 
-told_more : (n : ℕ) (old new told : List Reply) (y : Reply) → length told ≡ n → n < length old → new ≡ told ++ drop (length told) old
-    → set new n y ≡ (told ++ y ∷ []) ++ drop (length (told ++ y ∷ [])) old
+told_more : (n : ℕ) (old new : List (Option Reply)) (told : List Reply) (y : Reply) → length told ≡ n → n < length old → new ≡ map Some told ++ drop (length told) old
+    → set new n (Some y) ≡ map Some (told ++ y ∷ []) ++ drop (length (told ++ y ∷ [])) old
 told_more n old new told y s l e =
     let t : length told < length old = omega arith in
-    ap (λ z. set z n y) e ∙ ap (λ k. set (told ++ drop (length told) old) k y) (sym s) ∙ written told old y t
+    ap (λ z. set z n (Some y)) e ∙ ap (λ k. set (map Some told ++ drop (length told) old) k (Some y)) (sym s) ∙ written told old y t
 
 pub same_rooms : (a b c a' b' c' : ℕ) → a ≡ a' → b ≡ b' → c ≡ c' → rooms a b c ≡ rooms a' b' c'
 same_rooms a b c a' b' c' e f g = cc
@@ -99,35 +100,24 @@ by_loaded : (b : Bool) (o : Option ℕ) (n m place : ℕ) → Ok n ≡ cond b (r
 by_loaded true o n m place e = absurd (grind arith)
 by_loaded false o n m place e = by_unmade o n m e
 
-loaded_count : (makes : Gate → Bool) (h : Held) (terms : List TermCell) (n : ℕ) → Ok n ≡ load_answer makes h terms → n ≡ length terms
+pub loaded_count : (makes : Gate → Bool) (h : Held) (terms : List TermCell) (n : ℕ) → Ok n ≡ load_answer makes h terms → n ≡ length terms
 loaded_count makes h terms n e = by_loaded (is_loaded h) (first_unmade makes terms) n (length terms) h.steps e
 
--- what is told of a load's answer
-pub load_reply : {P : ℕ → Type 0} {Q : Refusal → Type 0} (makes : Gate → Bool) (h : Held) (terms : List TermCell) (answer : Result ℕ Refusal) (y : Reply) → MatchResult answer P Q
-    → ((n : ℕ) → P n → y ≡ Loaded n) → ((f : Refusal) → Q f → y ≡ RefusedReply f) → answer ≡ load_answer makes h terms → LoadReply terms y
-load_reply makes h terms (Ok n) y m f g e = inl (f n m ∙ ap Loaded (loaded_count makes h terms n e))
-load_reply makes h terms (Err r) y m f g e = inr (r, g r m)
-
--- the length of the front of a table
-pub cut : {A : Type 0} (n room : ℕ) (xs : List A) → n ≡ min room (length xs) → length (take (n - 0) xs) ≡ min room (length xs)
-cut n room xs e = let z : n - 0 ≡ n = omega arith in let l : n ≤ length xs = grind arith in ap (λ k. length (take k xs)) z ∙ length-take-le n xs l ∙ e
-
--- what is told of a call's answer is said to be refused where the call is
-pub refused_where : {A : Type 0} {P : A → Type 0} {Q : Refusal → Type 0} (K : Bool → Type 0) (answer : Result A Refusal) (y : Reply) → MatchResult answer P Q
-    → ((x : A) → P x → is_refused y ≡ false) → ((f : Refusal) → Q f → is_refused y ≡ true) → K (is_err answer) → K (is_refused y)
-refused_where K (Ok x) y m f g k = subst K (sym (f x m)) k
-refused_where K (Err e) y m f g k = subst K (sym (g e m)) k
+-- a call that is refused is replied to by its refusal
+pub kept_refused : {A : Type 0} (K : Bool → Type 0) (answer : Result A Refusal) (f : Refusal) (y : Reply) → IsErrAnd y (λ t. t ≡ RefusedTurn f) → answer ≡ Err f → K (is_err answer) → K (is_refused y)
+kept_refused K answer f (Ok d) h e k = absurd h
+kept_refused K answer f (Err t) h e k = subst K (ap is_err e ∙ sym (ap (λ (u : TurnFault). is_refused (Err u)) h)) k
 
 module _ {R : Type 0} (kind : Ghosts R) (given : Meaning kind.Content) (r : Rooms) where
   -- a row that a controller has played
-  abbrev pub RowOf : List Turn → List Reply → List Reply → Controller R kind → Type 0
+  abbrev pub RowOf : List Turn → List (Option Reply) → List (Option Reply) → Controller R kind → Type 0
   RowOf row old new c = RowPlayed kind.changes given r row old new (held c.shot) (kind.meaning c.register)
 
-  abbrev kept_so_far : (row : List Turn) (old new : List Reply) (c : Controller R kind) → RowOf row old new c → Kept kind.changes (held c.shot) (kind.meaning c.register)
+  abbrev kept_so_far : (row : List Turn) (old new : List (Option Reply)) (c : Controller R kind) → RowOf row old new c → Kept kind.changes (held c.shot) (kind.meaning c.register)
   kept_so_far row old new c k = record { loaded = k.loaded; stands = k.stands; start = first_place kind.changes given; is_new = k.is_new; reached = reached_of at_start k.played }
 
   -- a new controller has played nothing
-  pub none_yet : (old : List Reply) (c : Controller R kind) → held c.shot ≡ nothing_held → given.capacity ≤ 32 → kind.meaning c.register ≡ after_clear kind.changes given → RowOf [] old old c
+  pub none_yet : (old : List (Option Reply)) (c : Controller R kind) → held c.shot ≡ nothing_held → given.capacity ≤ 32 → kind.meaning c.register ≡ after_clear kind.changes given → RowOf [] old old c
   none_yet old c s small cleared =
       let is_new : New kind.changes (first_place kind.changes given) = record { nothing = refl; given = given; small = small; cleared = refl } in
       subst (λ z. RowPlayed kind.changes given r [] old old (held c.shot) z) (sym cleared) (record {
@@ -144,8 +134,8 @@ module _ {R : Type 0} (kind : Ghosts R) (given : Meaning kind.Content) (r : Room
       })
 
   -- one turn more
-  one_more : (n : ℕ) (row : List Turn) (old new : List Reply) (c c' : Controller R kind) (t : Turn) (y : Reply)
-      → RowOf row old new c → TurnPlayed kind r t c c' y → length row ≡ n → n < length old → RowOf (row ++ t ∷ []) old (set new n y) c'
+  one_more : (n : ℕ) (row : List Turn) (old new : List (Option Reply)) (c c' : Controller R kind) (t : Turn) (y : Reply)
+      → RowOf row old new c → TurnPlayed kind r t c c' y → length row ≡ n → n < length old → RowOf (row ++ t ∷ []) old (set new n (Some y)) c'
   one_more n row old new c c' t y k (inl (x, i, a, keeps)) s l =
       let after = keeps (kept_so_far row old new c k) in
       let played = then_one t y k.played i a after.does after.refusal in
@@ -162,8 +152,8 @@ module _ {R : Type 0} (kind : Ghosts R) (given : Meaning kind.Content) (r : Room
         told = told_more n old new k.replies y (as_many k.played ∙ s) l k.told;
       }
   one_more n row old new c c' t y k (inr (not, e, f)) s l =
-      subst (λ h. RowPlayed kind.changes given r (row ++ t ∷ []) old (set new n y) h (kind.meaning c'.register)) (sym (ap held e))
-      (subst (λ m. RowPlayed kind.changes given r (row ++ t ∷ []) old (set new n y) (held c.shot) m) (sym (ap kind.meaning f))
+      subst (λ h. RowPlayed kind.changes given r (row ++ t ∷ []) old (set new n (Some y)) h (kind.meaning c'.register)) (sym (ap held e))
+      (subst (λ m. RowPlayed kind.changes given r (row ++ t ∷ []) old (set new n (Some y)) (held c.shot) m) (sym (ap kind.meaning f))
       (record {
         replies = k.replies ++ y ∷ [];
         members = k.members;
@@ -178,13 +168,13 @@ module _ {R : Type 0} (kind : Ghosts R) (given : Meaning kind.Content) (r : Room
       }))
 
   -- the next turn of a row
-  pub next_turn : (i : ℕ) (row rest : List Turn) (t : Turn) (old new : List Reply) (c c' : Controller R kind) (y : Reply) (q : Rooms) → q ≡ r → drop i row ≡ t ∷ rest
-      → RowOf (take i row) old new c → TurnPlayed kind q t c c' y → i < length old → RowOf (take (i + 1) row) old (set new i y) c'
+  pub next_turn : (i : ℕ) (row rest : List Turn) (t : Turn) (old new : List (Option Reply)) (c c' : Controller R kind) (y : Reply) (q : Rooms) → q ≡ r → drop i row ≡ t ∷ rest
+      → RowOf (take i row) old new c → TurnPlayed kind q t c c' y → i < length old → RowOf (take (i + 1) row) old (set new i (Some y)) c'
   next_turn i row rest t old new c c' y q e f k p m =
       let (l, g, h) = next_of row i t rest f in
       let le : i ≤ length row = omega arith in
       let turn = subst (λ z. TurnPlayed kind z t c c' y) e p in
-      subst (λ ts. RowOf ts old (set new i y) c') (ap (λ z. take i row ++ z ∷ []) (sym g) ∙ sym (take_more row i t l)) (one_more i (take i row) old new c c' t y k turn (length-take-le i row le) m)
+      subst (λ ts. RowOf ts old (set new i (Some y)) c') (ap (λ z. take i row ++ z ∷ []) (sym g) ∙ sym (take_more row i t l)) (one_more i (take i row) old new c c' t y k turn (length-take-le i row le) m)
 
 module _ {R : Type 0} (kind : Ghosts R) where
   -- A load by tables that are those of the turn.

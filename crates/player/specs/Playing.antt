@@ -1,5 +1,5 @@
 -- What playing a row on a new controller comes to.
-use Rattle.std.specs.Prelude.{◌≡◌, ◌↔◌, true, List, [], ◌∷◌, ◌++◌, length, drop, None, Option}
+use Rattle.std.specs.Prelude.{◌≡◌, ◌↔◌, true, List, [], ◌∷◌, ◌++◌, map, length, drop, Some, None, Option}
 use Rattle.calculus.specs.Types.{Ty}
 use Rattle.calculus.specs.Terms.{Running}
 use Rattle.registers.specs.Meaning.{Meaning, Changes, after_clear}
@@ -12,8 +12,7 @@ use Rattle.rows.specs.Sound.{Sound}
 use Rattle.controller.specs.Shots.{Held}
 use Rattle.controller.specs.Keeping.{Stands, place}
 use Rattle.player.specs.declared.turns.Turn.{Turn}
-use Rattle.player.specs.declared.turns.Reply.{Reply}
-use Rattle.player.specs.Turns.{Rooms, IsMember, IsReply, NotPlayed, is_refused}
+use Rattle.player.specs.Turns.{Rooms, Reply, IsMember, IsReply, NotPlayed, is_refused}
 
 module _ {C : Type 0} (changes : Changes C) (r : Rooms) where
   -- Turns that are played from one place to another, with the replies, the members that they are, and the places that these lead
@@ -32,7 +31,7 @@ first_place changes given = place None (after_clear changes given)
 
 -- A row is played from a new controller's place, and leads to what is held and what the register means at last. Every place that
 -- it leads through is sound. The replies are at the front of their table, whose rest is as it was.
-pub record RowPlayed {C : Type 0} (changes : Changes C) (given : Meaning C) (r : Rooms) (row : List Turn) (old new : List Reply) (h : Held) (m : Meaning C) : Type 0 where
+pub record RowPlayed {C : Type 0} (changes : Changes C) (given : Meaning C) (r : Rooms) (row : List Turn) (old new : List (Option Reply)) (h : Held) (m : Meaning C) : Type 0 where
   pub replies : List Reply
   pub members : List Member
   pub places : List (Place C)
@@ -42,4 +41,4 @@ pub record RowPlayed {C : Type 0} (changes : Changes C) (given : Meaning C) (r :
   pub is_new : New changes (first_place changes given)
   pub is_row : Row changes (first_place changes given) members places
   pub sound : AtEach Sound places
-  pub told : new ≡ replies ++ drop (length replies) old
+  pub told : new ≡ map Some replies ++ drop (length replies) old

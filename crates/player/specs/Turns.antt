@@ -1,5 +1,5 @@
 -- What a turn is: a member of a row, or a program that is not accepted.
-use Rattle.std.specs.Prelude.{◌≡◌, ℕ, ◌≤◌, ◌⊎◌, Bool, true, false, List, length, min, Err}
+use Rattle.std.specs.Prelude.{◌≡◌, ℕ, ◌≤◌, ◌⊎◌, Bool, true, false, List, length, min, Ok, Err, Result}
 use Rattle.calculus.specs.declared.cells.TermCell.{TermCell}
 use Rattle.calculus.specs.declared.cells.TypeCell.{TypeCell}
 use Rattle.verdict.specs.declared.faults.CheckFault.{CheckFault}
@@ -13,8 +13,10 @@ use Rattle.controller.specs.declared.control.Controller.{Controller}
 use Rattle.controller.specs.Calls.{CallKeeps, LoadKeeps}
 use Rattle.player.specs.declared.turns.Turn.{Turn}
 use Rattle.player.specs.declared.turns.Turn.TheVariants.{Load, Step, Run, Collect, Abandon}
-use Rattle.player.specs.declared.turns.Reply.{Reply}
-use Rattle.player.specs.declared.turns.Reply.TheVariants.{Unplayed, NotAccepted, Refused, Loaded, Stepped, Ran, Collected, Abandoned}
+use Rattle.player.specs.declared.turns.Done.{Done}
+use Rattle.player.specs.declared.turns.Done.TheVariants.{Loaded, Stepped, Ran, Collected, Abandoned}
+use Rattle.player.specs.declared.turns.TurnFault.{TurnFault}
+use Rattle.player.specs.declared.turns.TurnFault.TheVariants.{NotAccepted, Refused}
 
 -- The lengths of the tables that the turns take their cells from.
 pub record Rooms : Type 0 where
@@ -24,6 +26,10 @@ pub record Rooms : Type 0 where
 
 abbrev pub rooms : ℕ → ℕ → ℕ → Rooms
 rooms work value kinds = record { work = work; value = value; kinds = kinds }
+
+-- What a turn has done, or why it has done nothing.
+abbrev pub Reply : Type 0
+Reply = Result Done TurnFault
 
 -- The turn is this member of a row: a load is of the program that its tables store, and no table is longer than its room.
 abbrev pub IsMember : Rooms → Turn → Member → Type 0
@@ -35,7 +41,7 @@ IsMember r Abandon x = x ≡ abandon
 
 -- The program is not accepted, and the reply is the checker's fault.
 abbrev pub Unaccepted : List TypeCell → List TermCell → Reply → Type 0
-Unaccepted types terms y = (f : CheckFault) × (program_verdict types terms ≡ Err f) × (y ≡ NotAccepted f)
+Unaccepted types terms y = (f : CheckFault) × (program_verdict types terms ≡ Err f) × (y ≡ Err (NotAccepted f))
 
 -- The turn is no member: it loads a program that is not accepted.
 abbrev pub NotPlayed : Turn → Reply → Type 0
@@ -47,33 +53,28 @@ NotPlayed Abandon y = ⊥
 
 -- the reply is that the call was refused
 abbrev pub is_refused : Reply → Bool
-is_refused (Refused f) = true
-is_refused Unplayed = false
-is_refused (NotAccepted f) = false
-is_refused (Loaded n) = false
-is_refused (Stepped n) = false
-is_refused (Ran n why) = false
-is_refused (Collected n k) = false
-is_refused Abandoned = false
+is_refused (Ok d) = false
+is_refused (Err (NotAccepted f)) = false
+is_refused (Err (Refused f)) = true
 
 -- The reply to each call is its answer, or that it was refused. A load answers its term's count of cells, a run no more steps than its budget.
 abbrev pub Refuses : Reply → Type 0
-Refuses y = (f : Refusal) × (y ≡ Refused f)
+Refuses y = (f : Refusal) × (y ≡ Err (Refused f))
 
 abbrev pub LoadReply : List TermCell → Reply → Type 0
-LoadReply terms y = (y ≡ Loaded (length terms)) ⊎ Refuses y
+LoadReply terms y = (y ≡ Ok (Loaded (length terms))) ⊎ Refuses y
 
 abbrev pub StepReply : Reply → Type 0
-StepReply y = ((n : ℕ) × (y ≡ Stepped n)) ⊎ Refuses y
+StepReply y = ((n : ℕ) × (y ≡ Ok (Stepped n))) ⊎ Refuses y
 
 abbrev pub RunReply : ℕ → Reply → Type 0
-RunReply budget y = ((n : ℕ) × (why : Stop) × (n ≤ budget) × (y ≡ Ran n why)) ⊎ Refuses y
+RunReply budget y = ((n : ℕ) × (why : Stop) × (n ≤ budget) × (y ≡ Ok (Ran n why))) ⊎ Refuses y
 
 abbrev pub CollectReply : Reply → Type 0
-CollectReply y = ((n : ℕ) × (k : ℕ) × (y ≡ Collected n k)) ⊎ Refuses y
+CollectReply y = ((n : ℕ) × (k : ℕ) × (y ≡ Ok (Collected n k))) ⊎ Refuses y
 
 abbrev pub AbandonReply : Reply → Type 0
-AbandonReply y = (y ≡ Abandoned) ⊎ Refuses y
+AbandonReply y = (y ≡ Ok Abandoned) ⊎ Refuses y
 
 abbrev pub IsReply : Turn → Reply → Type 0
 IsReply (Load types terms) = LoadReply terms.now

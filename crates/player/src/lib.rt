@@ -7,4 +7,4 @@ mod tests;
 mod turns;
 
 pub use playing::play;
-pub use turns::{Reply, Turn};
+pub use turns::{Done, Reply, Turn, TurnFault};

@@ -1,11 +1,11 @@
 //! One row over several registers.
 
 use crate::playing::play;
-use crate::turns::{Reply, Turn};
+use crate::turns::{Done, Reply, Turn, TurnFault};
 use calculus::{MOST_RUNNING_CELLS, TermCell, TypeCell};
 use controller::{ControllerFault, Refusal, Stop};
 use registers::{Cap, Entry, Level, Register, Tape};
-use verdict::CheckFault;
+use verdict::{CheckFault, CheckReason};
 
 fn term(op: char, claim: u16) -> TermCell {
     TermCell {
@@ -34,7 +34,7 @@ fn row<'a>(types: &'a [TypeCell], none: &'a [TermCell], terms: &'a [TermCell]) -
 }
 
 // The replies to the row; there is no place for the last.
-fn replies<R: Register + Drop>(register: R) -> [Reply; 7] {
+fn replies<R: Register + Drop>(register: R) -> [Option<Reply>; 7] {
     let mut work = [TermCell::default(); MOST_RUNNING_CELLS];
     let mut value = [TermCell::default(); 4];
     let mut kinds = [TypeCell::default(); 4];
@@ -54,7 +54,7 @@ fn replies<R: Register + Drop>(register: R) -> [Reply; 7] {
         term('n', 4),
         term('1', 0),
     ];
-    let mut replies = [Reply::Unplayed; 7];
+    let mut replies = [None; 7];
     let row = row(&types, &[], &terms);
     play(
         register,
@@ -67,20 +67,23 @@ fn replies<R: Register + Drop>(register: R) -> [Reply; 7] {
     replies
 }
 
-const WANTED: [Reply; 7] = [
-    Reply::NotAccepted(CheckFault::NotWhole(0)),
-    Reply::Loaded(5),
-    Reply::Refused(Refusal {
+const WANTED: [Option<Reply>; 7] = [
+    Some(Err(TurnFault::NotAccepted(CheckFault {
+        reason: CheckReason::NotWhole,
+        cell: 0,
+    }))),
+    Some(Ok(Done::Loaded(5))),
+    Some(Err(TurnFault::Refused(Refusal {
         fault: ControllerFault::ShortTable,
         place: 0,
-    }),
-    Reply::Stepped(3),
-    Reply::Ran(1, Stop::Value),
-    Reply::Collected(1, 1),
-    Reply::Refused(Refusal {
+    }))),
+    Some(Ok(Done::Stepped(3))),
+    Some(Ok(Done::Ran(1, Stop::Value))),
+    Some(Ok(Done::Collected(1, 1))),
+    Some(Err(TurnFault::Refused(Refusal {
         fault: ControllerFault::NothingLoaded,
         place: 0,
-    }),
+    }))),
 ];
 
 #[test]

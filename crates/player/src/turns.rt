@@ -1,5 +1,8 @@
 //! The turns of a row, and what is replied to each.
 
+ghost use Rattle.std.specs.Prelude.{◌≡◌};
+ghost use Rattle.player.specs.declared.turns.TurnFault.TheVariants.{NotAccepted, Refused};
+
 use calculus::{TermCell, TypeCell};
 use controller::{Refusal, Stop};
 use verdict::CheckFault;
@@ -18,15 +21,9 @@ pub enum Turn<'a> {
     Abandon,
 }
 
-/// The reply to a turn.
+/// What a turn has done.
 #[derive(Clone, Copy, PartialEq, Eq, Debug, Drop)]
-pub enum Reply {
-    /// The turn was not played.
-    Unplayed,
-    /// The program is not accepted, and nothing was called.
-    NotAccepted(CheckFault),
-    /// The call was refused.
-    Refused(Refusal),
+pub enum Done {
     /// Loaded: the cell count of the term.
     Loaded(usize),
     /// One step: the cell count of the next term.
@@ -37,3 +34,31 @@ pub enum Reply {
     Collected(usize, usize),
     Abandoned,
 }
+
+/// Why a turn has done nothing.
+#[derive(Clone, Copy, PartialEq, Eq, Debug, Drop)]
+pub enum TurnFault {
+    /// The program is not accepted, and nothing was called.
+    NotAccepted(CheckFault),
+    /// The call was refused.
+    Refused(Refusal),
+}
+
+impl From<CheckFault> for TurnFault {
+    ghost from_gives = { λ f t. t ≡ NotAccepted f };
+
+    fn from(fault: CheckFault) -> TurnFault {
+        TurnFault::NotAccepted(fault)
+    }
+}
+
+impl From<Refusal> for TurnFault {
+    ghost from_gives = { λ r t. t ≡ Refused r };
+
+    fn from(refusal: Refusal) -> TurnFault {
+        TurnFault::Refused(refusal)
+    }
+}
+
+/// The reply to a turn.
+pub type Reply = Result<Done, TurnFault>;

@@ -9,9 +9,9 @@ use Rattle.reader.specs.Lines.{said}
 use Rattle.reader.specs.Reading.{Left, Place, line_read}
 
 -- its section, the counts of the cells, and whether the end line counts just these
-abbrev pub place_of : Progress → Front TypeCell → Front TermCell → Place
+abbrev pub place_of : {m n : ℕ} → Progress → Front TypeCell m → Front TermCell n → Place
 place_of p ts ms = record { section = p.section; kinds = ts.count; ops = ms.count; agrees = p.agrees }
 
 -- what a line leaves, read where p stands
-abbrev pub line_after : Progress → Front TypeCell → Front TermCell → List ℕ → Left (Result Place ReadReason)
+abbrev pub line_after : {m n : ℕ} → Progress → Front TypeCell m → Front TermCell n → List ℕ → Left (Result Place ReadReason)
 line_after p ts ms line = line_read (place_of p ts ms) (said line) ts.cells.now ms.cells.now

@@ -8,6 +8,7 @@ use crate::numbers::number;
 use calculus::{TermCell, TypeCell, kind_parts, op_shape};
 
 // The letter of a field that is one byte.
+#[inline(always)]
 fn letter(field: &[u8]) -> Option<char>
     ensures { result ≡ letter_in field.now }
 {
@@ -18,49 +19,51 @@ fn letter(field: &[u8]) -> Option<char>
 }
 
 /// The cell of a kind field.
+#[inline(always)]
 pub fn type_cell(kind: &[u8]) -> Result<TypeCell, ReadReason>
     ensures { result ≡ kind_cell kind.now }
 {
-    match letter(kind) {
-        Some(kind) if kind_parts(kind).is_some() => Ok(TypeCell { kind }),
-        _ => Err(ReadReason::Line),
-    }
+    let kind = letter(kind)
+        .filter(|kind| kind_parts(*kind).is_some())
+        .ok_or(ReadReason::Line)?;
+    Ok(TypeCell { kind })
 }
 
 /// The cell of an op field and two number fields.
+#[inline(always)]
 pub fn term_cell(op: &[u8], argument: &[u8], claim: &[u8]) -> Result<TermCell, ReadReason>
     ensures { result ≡ op_cell op.now argument.now claim.now }
 {
-    match letter(op) {
-        Some(op) if op_shape(op).is_some() => {
-            let (argument, claim) = numbers(argument, claim)?;
-            Ok(TermCell {
-                op,
-                argument,
-                claim,
-            })
-        }
-        _ => Err(ReadReason::Line),
-    }
+    let op = letter(op)
+        .filter(|op| op_shape(*op).is_some())
+        .ok_or(ReadReason::Line)?;
+    let (argument, claim) = numbers(argument, claim)?;
+    Ok(TermCell {
+        op,
+        argument,
+        claim,
+    })
 }
 
 /// The numbers of two fields.
+#[inline(always)]
 pub fn numbers(first: &[u8], second: &[u8]) -> Result<(u16, u16), ReadReason>
     ensures { result ≡ two_numbers first.now second.now }
 {
     number(first).zip(number(second)).ok_or(ReadReason::Number)
 }
 
-/// The front of a table: the cells that have gone into it, with the room behind them.
+/// The front of a table: the cells that have gone into it, `MOST` at most, with the room behind them.
 #[derive(Drop)]
-pub struct Front<'a, T> {
+pub struct Front<'a, T, const MOST: usize> {
     cells: &'a mut [T],
     count: usize,
 }
 
-impl<'a, T: Copy> Front<'a, T> {
+impl<'a, T: Copy, const MOST: usize> Front<'a, T, MOST> {
     /// A table that no cell has gone into.
-    pub fn new(cells: &'a mut [T]) -> Front<'a, T>
+    #[inline(always)]
+    pub fn new(cells: &'a mut [T]) -> Front<'a, T, MOST>
         ensures same_table { result.cells.ghost_name ≡ cells.entry.ghost_name }
         ensures cells { result.cells.now ≡ cells.entry.now }
         ensures empty { result.count ≡ 0 }
@@ -69,6 +72,7 @@ impl<'a, T: Copy> Front<'a, T> {
     }
 
     /// How many cells have gone into it.
+    #[inline(always)]
     pub fn count(&self) -> usize
         ensures { result ≡ self.now.count }
     {
@@ -76,19 +80,21 @@ impl<'a, T: Copy> Front<'a, T> {
     }
 
     /// Whether just so many cells have gone into it.
+    #[inline(always)]
     pub fn holds(&self, cells: u16) -> bool
         ensures { result ≡ (cells == self.now.count) }
     {
         usize::from(cells) == self.count
     }
 
-    /// Puts a cell behind the earlier ones, below a limit.
-    pub fn push(&mut self, most: usize, cell: T) -> Result<(), ReadReason>
+    /// Puts a cell behind the earlier ones, below the limit.
+    #[inline(always)]
+    pub fn push(&mut self, cell: T) -> Result<(), ReadReason>
         ensures same_table { self.new.cells.ghost_name ≡ self.old.cells.ghost_name }
-        ensures answer { leaves result self.new.count ≡ next_place most self.old.cells.now self.old.count }
-        ensures cells { self.new.cells.now ≡ with_cell most self.old.cells.now self.old.count cell }
+        ensures answer { leaves result self.new.count ≡ next_place MOST self.old.cells.now self.old.count }
+        ensures cells { self.new.cells.now ≡ with_cell MOST self.old.cells.now self.old.count cell }
     {
-        if self.count >= most || self.count >= self.cells.len() {
+        if self.count >= MOST || self.count >= self.cells.len() {
             return Err(ReadReason::Full);
         }
         self.cells[self.count] = cell;

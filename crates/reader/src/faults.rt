@@ -1,21 +1,21 @@
 //! Why a stored program is refused, and at which line.
 
-ghost use Rattle.std.specs.Prelude.{◌≡◌};
+ghost use Rattle.std.specs.Prelude.{◌≡◌, if◌then◌else◌};
 ghost use Rattle.reader.specs.Faults.{number_of};
 
-/// Why a line is refused.
+/// Why a line is refused, with the number of the fault.
 #[derive(Clone, Copy, PartialEq, Eq, Debug, Drop)]
 pub enum ReadReason {
     /// Line 1 is not the header.
-    Header,
+    Header = 11,
     /// The line is not allowed here, or its fields or letters are wrong.
-    Line,
+    Line = 12,
     /// A number field is malformed.
-    Number,
+    Number = 13,
     /// The table handed over, or the limit of a program, is full.
-    Full,
+    Full = 14,
     /// The text ends where an ended line is due, or the counts differ.
-    End,
+    End = 15,
 }
 
 impl ReadReason {
@@ -23,20 +23,23 @@ impl ReadReason {
     pub fn number(self) -> u16
         ensures { result ≡ number_of self }
     {
-        match self {
-            ReadReason::Header => 11,
-            ReadReason::Line => 12,
-            ReadReason::Number => 13,
-            ReadReason::Full => 14,
-            ReadReason::End => 15,
-        }
+        self as u16
     }
 
     /// The fault for this reason at a line.
+    #[inline(always)]
     pub fn at(self, line: usize) -> ReadFault
         ensures { result ≡ record { reason = self; line = line } }
     {
         ReadFault { reason: self, line }
+    }
+
+    /// Refuses for this reason at a line where the test holds.
+    #[inline(always)]
+    pub fn refuse_if(self, test: bool, line: usize) -> Result<(), ReadFault>
+        ensures { result ≡ (if test then Err (record { reason = self; line = line }) else Ok tt) }
+    {
+        if test { Err(self.at(line)) } else { Ok(()) }
     }
 }
 

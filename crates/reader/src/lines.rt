@@ -17,6 +17,7 @@ pub enum Record<'a> {
 }
 
 // The line, if the first field is the letter that it asks for.
+#[inline(always)]
 fn lettered<'a>(field: &[u8], letter: &[u8], line: Record<'a>) -> Record<'a>
     ensures { said_by result ≡ (if bytes_eq field.now letter.now then said_by line.entry else other) }
 {
@@ -24,6 +25,7 @@ fn lettered<'a>(field: &[u8], letter: &[u8], line: Record<'a>) -> Record<'a>
 }
 
 // Whether a line is the header.
+#[inline(always)]
 fn is_header(line: &[u8]) -> bool
     ensures { result ≡ bytes_eq line.now header_line }
 {
@@ -31,6 +33,7 @@ fn is_header(line: &[u8]) -> bool
 }
 
 /// The record that a line is.
+#[inline(always)]
 pub fn record_of(line: &[u8]) -> Record<'_>
     ensures { said_by result ≡ said line.now }
 {

@@ -4,6 +4,7 @@ ghost use Rattle.std.specs.Prelude.{◌≡◌, [], ◌∷◌};
 ghost use Rattle.reader.specs.Numbers.{value_within, number_in};
 
 // The value with one digit more behind it.
+#[inline(always)]
 fn with_digit(value: u16, b: u8) -> Option<u16>
     ensures { result ≡ value_within value (b ∷ []) }
 {
@@ -14,6 +15,7 @@ fn with_digit(value: u16, b: u8) -> Option<u16>
 }
 
 // The value of decimal digits, where it is at most 65,535.
+#[inline(always)]
 fn digits(text: &[u8]) -> Option<u16>
     ensures { result ≡ value_within 0 text.now }
 {
@@ -22,6 +24,7 @@ fn digits(text: &[u8]) -> Option<u16>
 }
 
 /// A number of one to five digits, with no leading zero, at most 65,535.
+#[inline(always)]
 pub fn number(field: &[u8]) -> Option<u16>
     ensures { result ≡ number_in field.now }
 {

@@ -13,6 +13,12 @@ use crate::parts::parted;
 use crate::sections::{Section, next_section};
 use calculus::{MOST_TERM_CELLS, MOST_TYPE_CELLS, TermCell, TypeCell};
 
+/// A table of types that cells go into, up to the limit of a program.
+type Types<'a> = Front<'a, TypeCell, MOST_TYPE_CELLS>;
+
+/// A table of terms that cells go into, up to the limit of a program.
+type Terms<'a> = Front<'a, TermCell, MOST_TERM_CELLS>;
+
 /// How far a read has come: its section, and whether the end line, once read, counts just the cells.
 #[derive(Drop)]
 struct Progress {
@@ -22,11 +28,12 @@ struct Progress {
 
 impl Progress {
     // Takes in a line, whose cell goes behind the earlier ones of its table.
+    #[inline(always)]
     fn take_line(
         &mut self,
         line: &[u8],
-        types: &mut Front<'_, TypeCell>,
-        terms: &mut Front<'_, TermCell>,
+        types: &mut Types<'_>,
+        terms: &mut Terms<'_>,
     ) -> Result<(), ReadReason>
         ensures same_types { types.new.cells.ghost_name ≡ types.old.cells.ghost_name }
         ensures same_terms { terms.new.cells.ghost_name ≡ terms.old.cells.ghost_name }
@@ -37,10 +44,8 @@ impl Progress {
         let record = record_of(line);
         self.section = next_section(self.section, record)?;
         match record {
-            Record::Kind(kind) => types.push(MOST_TYPE_CELLS, type_cell(kind)?),
-            Record::Term(op, argument, claim) => {
-                terms.push(MOST_TERM_CELLS, term_cell(op, argument, claim)?)
-            }
+            Record::Kind(kind) => types.push(type_cell(kind)?),
+            Record::Term(op, argument, claim) => terms.push(term_cell(op, argument, claim)?),
             Record::Counts(kinds, ops) => {
                 let (kinds, ops) = numbers(kinds, ops)?;
                 self.agrees = types.holds(kinds) && terms.holds(ops);
@@ -51,25 +56,20 @@ impl Progress {
     }
 
     // The verdict at the end of the text, by what stands after its last ended line.
+    #[inline(always)]
     fn close(
         &self,
         rest: &[u8],
         due: usize,
-        types: &Front<'_, TypeCell>,
-        terms: &Front<'_, TermCell>,
+        types: &Types<'_>,
+        terms: &Terms<'_>,
     ) -> Result<(usize, usize), ReadFault>
         requires { 1 ≤ due }
         ensures { result ≡ closed rest.now due (place_of self.now types.now terms.now) }
     {
-        if self.section != Section::End {
-            return Err(ReadReason::End.at(due));
-        }
-        if !rest.is_empty() {
-            return Err(ReadReason::Line.at(due));
-        }
-        if !self.agrees {
-            return Err(ReadReason::End.at(due - 1));
-        }
+        ReadReason::End.refuse_if(self.section != Section::End, due)?;
+        ReadReason::Line.refuse_if(!rest.is_empty(), due)?;
+        ReadReason::End.refuse_if(!self.agrees, due - 1)?;
         Ok((types.count(), terms.count()))
     }
 }
@@ -87,8 +87,8 @@ pub fn read(
     ensures stored { Done text.now types.old terms.old result types.new terms.new }
     ensures within { Bounded result types.old terms.old }
 {
-    let mut types = Front::new(types);
-    let mut terms = Front::new(terms);
+    let mut types = Types::new(types);
+    let mut terms = Terms::new(terms);
     let mut progress = Progress {
         section: Section::Header,
         agrees: false,

@@ -16,6 +16,7 @@ pub enum Section {
 }
 
 /// The section after a line, where the line is allowed.
+#[inline(always)]
 pub fn next_section(section: Section, line: Record) -> Result<Section, ReadReason>
     ensures { result ≡ section_after section (said_by line.entry) }
 {

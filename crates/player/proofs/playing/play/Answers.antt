@@ -1,4 +1,4 @@
-use Rattle.std.proofs.Common.{◌≡◌, ◌+◌, ◌∷◌, ◌∙◌, drop, length, take, set, sym, ap, subst, arith}
+use Rattle.std.proofs.Common.{◌≡◌, ◌+◌, ◌∷◌, ◌∙◌, Some, drop, length, take, set, sym, ap, subst, arith}
 use Rattle.player.specs.Turns.{rooms}
 use Rattle.player.proofs.Played.{RowOf, none_yet, next_turn, next_of, ended, same_rooms}
 use Rattle.player.proofs.playing.play.Goals as goal
@@ -38,8 +38,8 @@ loop-i-preserved g c =
     record {
       ahead = sym later ∙ ap (λ k. drop k row) (sym s.2);
       places = omega (arith, s.0.1, s.2, c.loop-i.invariant.places);
-      played = subst (λ k. RowOf r given from (take k row) c.args.replies.now (set c.loop-i.replies c.in-Some.i c.play_turn.result) c.play_turn.new.controller) (sym s.2)
-          (subst (λ i. RowOf r given from (take (at + 1) row) c.args.replies.now (set c.loop-i.replies i c.play_turn.result) c.play_turn.new.controller) (sym s.1) played);
+      played = subst (λ k. RowOf r given from (take k row) c.args.replies.now (set c.loop-i.replies c.in-Some.i (Some c.play_turn.result)) c.play_turn.new.controller) (sym s.2)
+          (subst (λ i. RowOf r given from (take (at + 1) row) c.args.replies.now (set c.loop-i.replies i (Some c.play_turn.result)) c.play_turn.new.controller) (sym s.1) played);
     }
 
 pub returns : goal.returns

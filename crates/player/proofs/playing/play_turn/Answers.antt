@@ -1,7 +1,7 @@
 use Rattle.std.proofs.Common.{ap, ap₂, inl, inr, refl, length, ⊎_elim}
 use Rattle.rows.specs.Members.{step, run, collect, load, abandon}
 use Rattle.player.specs.Turns.{rooms}
-use Rattle.player.proofs.Played.{cut, turn_is}
+use Rattle.player.proofs.Played.{turn_is}
 use Rattle.player.proofs.playing.play_turn.Goals as goal
 
 pub returns-in-Load : goal.returns-in-Load
@@ -12,20 +12,19 @@ returns-in-Load g c =
 pub returns-in-Step : goal.returns-in-Step
 returns-in-Step g c =
     turn_is g.R.Register (rooms (length c.args.work.now) (length c.args.value.now) (length c.args.kinds.now)) c.args.turn.now _ c.args.controller.now c.step.new.controller c.step.result c.in-Step.is
-    (inl (step _, ap step (cut c.min-room.result c.in-Step.room c.args.work.now c.min-room.ensures), c.step.ensures.reply, c.step.ensures.kept))
+    (inl (step _, ap step c.first_cells.ensures.count, c.step.ensures.reply, c.step.ensures.kept))
 
 pub returns-in-Run : goal.returns-in-Run
 returns-in-Run g c =
     turn_is g.R.Register (rooms (length c.args.work.now) (length c.args.value.now) (length c.args.kinds.now)) c.args.turn.now _ c.args.controller.now c.run.new.controller c.run.result c.in-Run.is
-    (inl (run c.in-Run.budget _, ap (run c.in-Run.budget) (cut c.min-room-in-Run.result c.in-Run.room c.args.work.now c.min-room-in-Run.ensures), c.run.ensures.reply, c.run.ensures.kept))
+    (inl (run c.in-Run.budget _, ap (run c.in-Run.budget) c.first_cells-in-Run.ensures.count, c.run.ensures.reply, c.run.ensures.kept))
 
 pub returns-in-Collect : goal.returns-in-Collect
 returns-in-Collect g c =
     turn_is g.R.Register (rooms (length c.args.work.now) (length c.args.value.now) (length c.args.kinds.now)) c.args.turn.now _ c.args.controller.now c.collect.new.controller c.collect.result c.in-Collect.is
     (inl (
       collect _ _,
-      ap₂ collect (cut c.min-room-in-Collect.result c.in-Collect.room c.args.value.now c.min-room-in-Collect.ensures)
-          (cut c.min-kind_room.result c.in-Collect.kind_room c.args.kinds.now c.min-kind_room.ensures),
+      ap₂ collect c.first_cells-in-Collect.ensures.count c.first_cells-in-Collect-2.ensures.count,
       c.collect.ensures.reply,
       c.collect.ensures.kept,
     ))
