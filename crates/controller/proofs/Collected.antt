@@ -7,8 +7,8 @@ use Rattle.calculus.specs.Types.{Ty}
 use Rattle.calculus.specs.Terms.{Running, size}
 use Rattle.calculus.specs.Cells.{type_cells}
 use Rattle.calculus.specs.Reduction.{Value}
-use Rattle.finder.specs.declared.works.Rule.{Rule}
-use Rattle.finder.specs.declared.works.FindFault.{FindFault}
+use Rattle.finder.specs.declared.rules.Rule.{Rule}
+use Rattle.finder.specs.declared.faults.FindFault.{FindFault}
 use Rattle.finder.specs.Finding.{answer}
 use Rattle.finder.specs.Laws.{Means}
 use Rattle.finder.proofs.Meaning.{as_many}

@@ -1,9 +1,8 @@
 -- A load is the member of a row: it is refused just where something is loaded or a gate is not made, and else the program's term stands.
-use Rattle.std.specs.Prelude.{◌≡◌, ℕ, ◌+◌, ◌≤◌, Bool, true, false, cond, ◌&&◌, ◌||◌, T as True, List, [], ◌∷◌, ◌++◌, length, Some, None, Ok, Err, Option, Result, MatchResult, is_err, is_some, not, ◌==◌}
+use Rattle.std.specs.Prelude.{◌≡◌, ℕ, ◌≤◌, Bool, true, false, cond, ◌&&◌, ◌||◌, T as True, List, [], ◌∷◌, ◌++◌, length, Some, None, Ok, Err, Option, Result, MatchResult, is_err, is_some, not, ◌==◌}
 use Rattle.std.proofs.lemmas.Bool.{false≢true}
 use Rattle.std.proofs.Common.{ap, ap₂, ◌∙◌, sym, refl, subst, ⊎_elim, arith}
 use Rattle.std.proofs.lemmas.Option.{none-some}
-use Rattle.trees.specs.Failing.{first_failing}
 use Rattle.calculus.specs.declared.gates.Gate.{Gate}
 use Rattle.calculus.specs.declared.gates.Gate.TheVariants.{H, X, Z, S, T, Cnot, Swap, Toffoli}
 use Rattle.calculus.specs.declared.cells.TermCell.{TermCell}
@@ -13,10 +12,12 @@ use Rattle.calculus.specs.Terms.{Const, bit_of, meas, new, gate, bound, held, Te
 use Rattle.calculus.specs.Cells.{const_op, const_argument, cell_of, type_cells, placed_cells, running_cells, unclaimed}
 use Rattle.calculus.specs.Letters.{allowed}
 use Rattle.calculus.specs.Reading.{type_at, every}
+use Rattle.calculus.proofs.Failing.{all_pass, none_fails}
 use Rattle.calculus.proofs.Reading.{T_true, both}
+use Rattle.calculus.proofs.Stripping.{T_and}
 use Rattle.calculus.proofs.ReadTerms.{cells_counted}
 use Rattle.finder.proofs.Meaning.{as_many, unclaimed_cells}
-use Rattle.finder.proofs.Standing.{size_reclaimed}
+use Rattle.calculus.proofs.Reaching.{size_reclaimed}
 use Rattle.checker.specs.Accepting.{accepts}
 use Rattle.checker.specs.Meaning.{meaning as term_meant}
 use Rattle.checker.specs.Tables.{storable}
@@ -52,46 +53,31 @@ const_made makes c (gate Cnot) all = all Cnot gate_here
 const_made makes c (gate Swap) all = all Swap gate_here
 const_made makes c (gate Toffoli) all = all Toffoli gate_here
 
--- All cells of a list pass the test, and so do those of two lists and of neither.
-abbrev AllPass : (TermCell → Bool) → List TermCell → Type 0
-AllPass f [] = Unit {0}
-AllPass f (c ∷ cs) = (f c ≡ true) × AllPass f cs
-
-joined : (f : TermCell → Bool) (cs ds : List TermCell) → AllPass f cs → AllPass f ds → AllPass f (cs ++ ds)
+-- Where two lists pass a test, so does the one behind the other, and the other way round.
+joined : (f : TermCell → Bool) (cs ds : List TermCell) → True (every f cs) → True (every f ds) → True (every f (cs ++ ds))
 joined f [] ds p q = q
-joined f (c ∷ cs) ds p q = (p.0, joined f cs ds (p.1) q)
+joined f (c ∷ cs) ds p q = let r = both (f c) (every f cs) p in (T_and (f c) (every f (cs ++ ds))).1 (r.0, joined f cs ds (r.1) q)
 
-parted : (f : TermCell → Bool) (cs ds : List TermCell) → AllPass f (cs ++ ds) → AllPass f cs × AllPass f ds
+parted : (f : TermCell → Bool) (cs ds : List TermCell) → True (every f (cs ++ ds)) → True (every f cs) × True (every f ds)
 parted f [] ds p = (tt, p)
-parted f (c ∷ cs) ds p = let r = parted f cs ds (p.1) in ((p.0, r.0), r.1)
-
-none_fails : (f : TermCell → Bool) (cs : List TermCell) (k : ℕ) → AllPass f cs → first_failing f cs k ≡ None
-none_fails f [] k p = refl
-none_fails f (c ∷ cs) k p = ap (λ b. cond b (first_failing f cs (k + 1)) (Some k)) (p.0) ∙ none_fails f cs (k + 1) (p.1)
-
-all_pass : (f : TermCell → Bool) (cs : List TermCell) (k : ℕ) → first_failing f cs k ≡ None → AllPass f cs
-all_pass f [] k e = tt
-all_pass f (c ∷ cs) k e = by (f c) refl e (λ x. all_pass f cs (k + 1) x)
-  where
-    by : (b : Bool) → f c ≡ b → cond b (first_failing f cs (k + 1)) (Some k) ≡ None → (first_failing f cs (k + 1) ≡ None → AllPass f cs) → (f c ≡ true) × AllPass f cs
-    by true q e more = (q, more e)
-    by false q e more = absurd (none-some k (sym e))
+parted f (c ∷ cs) ds p =
+    let r = both (f c) (every f (cs ++ ds)) p in
+    let s = parted f cs ds (r.1) in
+    ((T_and (f c) (every f cs)).1 (r.0, s.0), s.1)
 
 -- The cells of a term pass just where every gate that it names is made, whatever its claims stand for.
-cells_pass : (makes : Gate → Bool) (f : ℕ → Ty) (m : Term ℕ) → ((u : Gate) → NamesGate u (reclaimed f m) → makes u ≡ true) → AllPass (is_made makes) (placed_cells m)
-cells_pass makes f (var c (bound i)) all = (refl, tt)
-cells_pass makes f (var c (held h)) all = (refl, tt)
-cells_pass makes f (const c k) all = (const_made makes c k all, tt)
-cells_pass makes f (star c) all = (refl, tt)
-cells_pass makes f (lam c m) all = (refl, cells_pass makes f m (λ u g. all u (gate_lam g)))
-cells_pass makes f (app c m n) all = (refl, joined (is_made makes) (placed_cells m) (placed_cells n) (cells_pass makes f m (λ u g. all u (gate_fun g))) (cells_pass makes f n (λ u g. all u (gate_arg g))))
-cells_pass makes f (pair c m n) all = (refl, joined (is_made makes) (placed_cells m) (placed_cells n) (cells_pass makes f m (λ u g. all u (gate_left g))) (cells_pass makes f n (λ u g. all u (gate_right g))))
-cells_pass makes f (if_then_else c p m n) all = (
-  refl,
-  joined (is_made makes) (placed_cells p) (placed_cells m ++ placed_cells n) (cells_pass makes f p (λ u g. all u (gate_test g)))
-      (joined (is_made makes) (placed_cells m) (placed_cells n) (cells_pass makes f m (λ u g. all u (gate_then g))) (cells_pass makes f n (λ u g. all u (gate_else g)))),
-)
-cells_pass makes f (let_pair c m n) all = (refl, joined (is_made makes) (placed_cells m) (placed_cells n) (cells_pass makes f m (λ u g. all u (gate_pair g))) (cells_pass makes f n (λ u g. all u (gate_body g))))
+cells_pass : (makes : Gate → Bool) (f : ℕ → Ty) (m : Term ℕ) → ((u : Gate) → NamesGate u (reclaimed f m) → makes u ≡ true) → True (every (is_made makes) (placed_cells m))
+cells_pass makes f (var c (bound i)) all = tt
+cells_pass makes f (var c (held h)) all = tt
+cells_pass makes f (const c k) all = subst (λ b. True (b && true)) (sym (const_made makes c k all)) tt
+cells_pass makes f (star c) all = tt
+cells_pass makes f (lam c m) all = cells_pass makes f m (λ u g. all u (gate_lam g))
+cells_pass makes f (app c m n) all = joined (is_made makes) (placed_cells m) (placed_cells n) (cells_pass makes f m (λ u g. all u (gate_fun g))) (cells_pass makes f n (λ u g. all u (gate_arg g)))
+cells_pass makes f (pair c m n) all = joined (is_made makes) (placed_cells m) (placed_cells n) (cells_pass makes f m (λ u g. all u (gate_left g))) (cells_pass makes f n (λ u g. all u (gate_right g)))
+cells_pass makes f (if_then_else c p m n) all =
+    joined (is_made makes) (placed_cells p) (placed_cells m ++ placed_cells n) (cells_pass makes f p (λ u g. all u (gate_test g)))
+    (joined (is_made makes) (placed_cells m) (placed_cells n) (cells_pass makes f m (λ u g. all u (gate_then g))) (cells_pass makes f n (λ u g. all u (gate_else g))))
+cells_pass makes f (let_pair c m n) all = joined (is_made makes) (placed_cells m) (placed_cells n) (cells_pass makes f m (λ u g. all u (gate_pair g))) (cells_pass makes f n (λ u g. all u (gate_body g)))
 
 gate_passes : (makes : Gate → Bool) (c : ℕ) (u : Gate) → is_made makes (cell_of 103 (const_argument (gate u)) c) ≡ makes u
 gate_passes makes c H = refl
@@ -103,22 +89,22 @@ gate_passes makes c Cnot = refl
 gate_passes makes c Swap = refl
 gate_passes makes c Toffoli = refl
 
-gates_made : (makes : Gate → Bool) (f : ℕ → Ty) (m : Term ℕ) → AllPass (is_made makes) (placed_cells m) → (u : Gate) → NamesGate u (reclaimed f m) → makes u ≡ true
+gates_made : (makes : Gate → Bool) (f : ℕ → Ty) (m : Term ℕ) → True (every (is_made makes) (placed_cells m)) → (u : Gate) → NamesGate u (reclaimed f m) → makes u ≡ true
 gates_made makes f (var c x) p u g = elim g [ ]
-gates_made makes f (const c k) p u gate_here = sym (gate_passes makes c u) ∙ p.0
+gates_made makes f (const c k) p u gate_here = sym (gate_passes makes c u) ∙ T_true _ ((both _ true p).0)
 gates_made makes f (star c) p u g = elim g [ ]
-gates_made makes f (lam c m) p u (gate_lam g) = gates_made makes f m (p.1) u g
-gates_made makes f (app c m n) p u (gate_fun g) = gates_made makes f m ((parted (is_made makes) (placed_cells m) (placed_cells n) (p.1)).0) u g
-gates_made makes f (app c m n) p u (gate_arg g) = gates_made makes f n ((parted (is_made makes) (placed_cells m) (placed_cells n) (p.1)).1) u g
-gates_made makes f (pair c m n) p u (gate_left g) = gates_made makes f m ((parted (is_made makes) (placed_cells m) (placed_cells n) (p.1)).0) u g
-gates_made makes f (pair c m n) p u (gate_right g) = gates_made makes f n ((parted (is_made makes) (placed_cells m) (placed_cells n) (p.1)).1) u g
-gates_made makes f (if_then_else c p m n) q u (gate_test g) = gates_made makes f p ((parted (is_made makes) (placed_cells p) (placed_cells m ++ placed_cells n) (q.1)).0) u g
+gates_made makes f (lam c m) p u (gate_lam g) = gates_made makes f m p u g
+gates_made makes f (app c m n) p u (gate_fun g) = gates_made makes f m ((parted (is_made makes) (placed_cells m) (placed_cells n) p).0) u g
+gates_made makes f (app c m n) p u (gate_arg g) = gates_made makes f n ((parted (is_made makes) (placed_cells m) (placed_cells n) p).1) u g
+gates_made makes f (pair c m n) p u (gate_left g) = gates_made makes f m ((parted (is_made makes) (placed_cells m) (placed_cells n) p).0) u g
+gates_made makes f (pair c m n) p u (gate_right g) = gates_made makes f n ((parted (is_made makes) (placed_cells m) (placed_cells n) p).1) u g
+gates_made makes f (if_then_else c p m n) q u (gate_test g) = gates_made makes f p ((parted (is_made makes) (placed_cells p) (placed_cells m ++ placed_cells n) q).0) u g
 gates_made makes f (if_then_else c p m n) q u (gate_then g) =
-    gates_made makes f m ((parted (is_made makes) (placed_cells m) (placed_cells n) ((parted (is_made makes) (placed_cells p) (placed_cells m ++ placed_cells n) (q.1)).1)).0) u g
+    gates_made makes f m ((parted (is_made makes) (placed_cells m) (placed_cells n) ((parted (is_made makes) (placed_cells p) (placed_cells m ++ placed_cells n) q).1)).0) u g
 gates_made makes f (if_then_else c p m n) q u (gate_else g) =
-    gates_made makes f n ((parted (is_made makes) (placed_cells m) (placed_cells n) ((parted (is_made makes) (placed_cells p) (placed_cells m ++ placed_cells n) (q.1)).1)).1) u g
-gates_made makes f (let_pair c m n) p u (gate_pair g) = gates_made makes f m ((parted (is_made makes) (placed_cells m) (placed_cells n) (p.1)).0) u g
-gates_made makes f (let_pair c m n) p u (gate_body g) = gates_made makes f n ((parted (is_made makes) (placed_cells m) (placed_cells n) (p.1)).1) u g
+    gates_made makes f n ((parted (is_made makes) (placed_cells m) (placed_cells n) ((parted (is_made makes) (placed_cells p) (placed_cells m ++ placed_cells n) q).1)).1) u g
+gates_made makes f (let_pair c m n) p u (gate_pair g) = gates_made makes f m ((parted (is_made makes) (placed_cells m) (placed_cells n) p).0) u g
+gates_made makes f (let_pair c m n) p u (gate_body g) = gates_made makes f n ((parted (is_made makes) (placed_cells m) (placed_cells n) p).1) u g
 
 -- The first cell of the term that names a gate which is not made: none, just where every gate that the term names is made.
 pub unmade_none : (makes : Gate → Bool) (m : Term ℕ) (f : ℕ → Ty) → ((u : Gate) → NamesGate u (reclaimed f m) → makes u ≡ true) → first_unmade makes (placed_cells m) ≡ None

@@ -22,7 +22,7 @@ use Rattle.registers.proofs.Sheet.{refusals_are_exact}
 use Rattle.finder.specs.Finding.{answer}
 use Rattle.finder.specs.Laws.{Means}
 use Rattle.finder.specs.Steps.{step_rule, step_cell}
-use Rattle.finder.specs.declared.works.Rule.{Rule}
+use Rattle.finder.specs.declared.rules.Rule.{Rule}
 use Rattle.finder.proofs.Reduction.{search_is_reduction}
 use Rattle.stepper.specs.Laws.{Closed, answer_of, Fits, fits_function, fits_pair, fits_then, fits_else, fits_prepare, fits_read, fits_gates, Answered}
 use Rattle.stepper.specs.Naming.{dropped, names}
@@ -214,7 +214,7 @@ module _ {C : Type 0} (changes : Changes C) (t : Told C) (free : Fresh t.meaning
   prepare_gives h q = grind arith
 
   by_prepare : {n : Running} {b : Bool} {k : ℕ} (d : Reduces m (prepares b k) n) → length (next_cells cs (step_rule d) (step_cell d) Nothing) ≤ 1024
-      → after_asked t cs changes (step_rule d) (step_cell d) ≡ after_by t changes (prepares b k)
+      → after_asked t (drop (step_cell d) cs) changes (step_rule d) ≡ after_by t changes (prepares b k)
       → (x : Result ℕ RegisterFault) → prepare_answer t.meaning t.depth t.fresh ≡ x → Comes (made_or_fault changes t cs (step_rule d) (step_cell d) (passed Handle x))
   by_prepare {b = b} d few after (Err f) q = refused_by d (to_prepare b) refl f.reason ((prepare_says (Err f) q b).0)
   by_prepare {n = n} {b = b} {k = k} d few after (Ok h) q = go h (prepare_gives h q)
@@ -250,7 +250,7 @@ module _ {C : Type 0} (changes : Changes C) (t : Told C) (free : Fresh t.meaning
   read_gives h o q = grind arith
 
   by_read : {n : Running} {h : ℕ} {o : Bool} (d : Reduces m (reads h o) n) → length (next_cells cs (step_rule d) (step_cell d) Nothing) ≤ 1024
-      → after_asked t cs changes (step_rule d) (step_cell d) ≡ after_by t changes (reads h o)
+      → after_asked t (drop (step_cell d) cs) changes (step_rule d) ≡ after_by t changes (reads h o)
       → (x : Result Bool RegisterFault) → read_answer t.meaning t.depth h (t.outcome h) ≡ x → Comes (made_or_fault changes t cs (step_rule d) (step_cell d) (passed Outcome x))
   by_read {h = h} d few after (Err f) q = refused_by d (to_read h) refl f.reason ((read_says h (Err f) q).0)
   by_read {n = n} {h = h} {o = o} d few after (Ok b) q = go b (read_gives h b q)
@@ -277,7 +277,7 @@ module _ {C : Type 0} (changes : Changes C) (t : Told C) (free : Fresh t.meaning
   gate_says u hs x q = subst (λ y. Exact t.meaning (to_gate u hs) (reason_of y)) q (refusals_are_exact t.meaning t.depth 0 false (to_gate u hs))
 
   by_gate : {n : Running} {u : Gate} {hs : List ℕ} (d : Reduces m (applies u hs) n) → length (next_cells cs (step_rule d) (step_cell d) Nothing) ≤ 1024
-      → after_asked t cs changes (step_rule d) (step_cell d) ≡ after_by t changes (applies u hs)
+      → after_asked t (drop (step_cell d) cs) changes (step_rule d) ≡ after_by t changes (applies u hs)
       → (x : Result (Unit {0}) RegisterFault) → gate_answer t.meaning t.depth u hs ≡ x → Comes (made_or_fault changes t cs (step_rule d) (step_cell d) (passed (λ z. Nothing) x))
   by_gate {u = u} {hs = hs} d few after (Err f) q = refused_by d (to_gate u hs) refl f.reason ((gate_says u hs (Err f) q).0)
   by_gate {u = u} {hs = hs} d few after (Ok z) q =
@@ -286,7 +286,7 @@ module _ {C : Type 0} (changes : Changes C) (t : Told C) (free : Fresh t.meaning
       (finish d (effect_fits d tt) few (only_call (applies u hs) refl ok) (after_by t changes (applies u hs)) (ok, refl))
 
   by_effect : {n : Running} (e : Effect) (d : Reduces m e n) → length (next_cells cs (step_rule d) (step_cell d) Nothing) ≤ 1024
-      → after_asked t cs changes (step_rule d) (step_cell d) ≡ after_by t changes e → Comes (made_or_fault changes t cs (step_rule d) (step_cell d) (asked_by t e))
+      → after_asked t (drop (step_cell d) cs) changes (step_rule d) ≡ after_by t changes e → Comes (made_or_fault changes t cs (step_rule d) (step_cell d) (asked_by t e))
   by_effect silent d few after =
       subst (λ y. Done (made_with (step_rule d) (step_cell d) Nothing y)) (sym after)
       (finish d (effect_fits d tt) few (λ call q. absurd (none_some q)) t.meaning refl)
@@ -303,11 +303,11 @@ module _ {C : Type 0} (changes : Changes C) (t : Told C) (free : Fresh t.meaning
   effect_within (reads h o) d = named_within h (asked_named h d refl)
   effect_within (applies u hs) d = λ h i. named_within h (asked_named h d i)
 
-  reads_at : {n : Running} {e : Effect} (d : Reduces m e n) → Reads cs (step_cell d) e
+  reads_at : {n : Running} {e : Effect} (d : Reduces m e n) → Reads (drop (step_cell d) cs) e
   reads_at {n = n} {e = e} d =
       let (p, q, r, due, rule, zero_cell) = search_is_reduction.redex m n e d in
       let (ds, s) = search_is_reduction.stands m p (step_cell d) due in
-      redex_reads r zero_cell cs ds (step_cell d) (ap (drop (step_cell d)) cells_are ∙ s) (effect_within e d)
+      subst (λ xs. Reads xs e) (sym (ap (drop (step_cell d)) cells_are ∙ s)) (redex_reads r zero_cell ds (effect_within e d))
 
   next_size : {n : Running} {e : Effect} (d : Reduces m e n) → length (next_cells cs (step_rule d) (step_cell d) Nothing) ≡ size n
   next_size {n = n} {e = e} d =
@@ -318,11 +318,11 @@ module _ {C : Type 0} (changes : Changes C) (t : Told C) (free : Fresh t.meaning
   advance : {n : Running} {e : Effect} (d : Reduces m e n) → step_cell d < length cs → Comes (advanced changes t cs (step_rule d) (step_cell d))
   advance {n = n} {e = e} d l = subst Comes (sym first_test) (by (nat_lt 1024 (length (next_cells cs (step_rule d) (step_cell d) Nothing))) refl)
     where
-      asks_this : asked t cs (step_rule d) (step_cell d) ≡ asked_by t e
-      asks_this = rule_asks t d cs (step_cell d) (reads_at d)
+      asks_this : asked t (drop (step_cell d) cs) (step_rule d) ≡ asked_by t e
+      asks_this = rule_asks t d (drop (step_cell d) cs) (reads_at d)
 
       rest_of : Bool → Result (Made C) ControllerFault
-      rest_of b = cond b (Err TooLong) (made_or_fault changes t cs (step_rule d) (step_cell d) (asked t cs (step_rule d) (step_cell d)))
+      rest_of b = cond b (Err TooLong) (made_or_fault changes t cs (step_rule d) (step_cell d) (asked t (drop (step_cell d) cs) (step_rule d)))
 
       first_test : advanced changes t cs (step_rule d) (step_cell d) ≡ rest_of (nat_lt 1024 (length (next_cells cs (step_rule d) (step_cell d) Nothing)))
       first_test = ap (λ b. cond b (Err NoRule) (rest_of (nat_lt 1024 (length (next_cells cs (step_rule d) (step_cell d) Nothing))))) (let z : nat_le (length cs) (step_cell d) ≡ false = grind arith in z)
@@ -331,7 +331,7 @@ module _ {C : Type 0} (changes : Changes C) (t : Told C) (free : Fresh t.meaning
       by true q = λ w. (37, too_long refl (e, n, d, (let z = next_size d in grind arith)))
       by false q =
           subst (λ x. Comes (made_or_fault changes t cs (step_rule d) (step_cell d) x)) (sym asks_this)
-          (by_effect e d (let z : length (next_cells cs (step_rule d) (step_cell d) Nothing) ≤ 1024 = grind arith in z) (rule_makes t changes d cs (step_cell d) (reads_at d)))
+          (by_effect e d (let z : length (next_cells cs (step_rule d) (step_cell d) Nothing) ≤ 1024 = grind arith in z) (rule_makes t changes d (drop (step_cell d) cs) (reads_at d)))
 
   pub stepping : Comes (stepped changes t cs)
   stepping = ⊎_elim at_value goes (value_or_goes kept)

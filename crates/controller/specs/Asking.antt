@@ -1,13 +1,13 @@
 -- What the rule at a cell asks of the register, and the register's answer.
-use Rattle.std.specs.Prelude.{ℕ, ◌+◌, Bool, cond, List, [], ◌∷◌, map, Ok, Err, Result, ◌==◌, nat_lt, slice_index_or}
+use Rattle.std.specs.Prelude.{ℕ, Bool, cond, List, [], ◌∷◌, map, Ok, Err, Result, ◌==◌, nat_lt, slice_index_or}
+use Rattle.calculus.specs.Cells.{blank}
 use Rattle.calculus.specs.declared.gates.Gate.{Gate}
 use Rattle.calculus.specs.declared.gates.Gate.TheVariants.{H, X, Z, S, T, Cnot, Swap, Toffoli}
 use Rattle.calculus.specs.declared.cells.TermCell.{TermCell}
 use Rattle.calculus.specs.Gates.{gate_of}
 use Rattle.calculus.specs.Reading.{or_toffoli}
-use Rattle.finder.specs.Finding.{blank}
-use Rattle.finder.specs.declared.works.Rule.{Rule}
-use Rattle.finder.specs.declared.works.Rule.TheVariants.{Function, Pair, Then, Else, Prepare, Read, Gates}
+use Rattle.finder.specs.declared.rules.Rule.{Rule}
+use Rattle.finder.specs.declared.rules.Rule.TheVariants.{Function, Pair, Then, Else, Prepare, Read, Gates}
 use Rattle.registers.specs.declared.fault.RegisterReason.{RegisterReason}
 use Rattle.registers.specs.declared.fault.RegisterFault.{RegisterFault}
 use Rattle.registers.specs.declared.register.Register.{Ghosts}
@@ -26,10 +26,7 @@ cell_at cs at = slice_index_or cs at blank
 abbrev pub handle_of : TermCell → ℕ
 handle_of c = cond (nat_lt c.argument 32) c.argument 255
 
-abbrev pub gate_at : List TermCell → ℕ → Gate
-gate_at cs at = or_toffoli (gate_of (cell_at cs at).argument)
-
--- the places of a gate's qubits behind the first cell of its redex: one, a pair, or one and a pair
+-- the places of a gate's qubits in the cells of its redex: one, a pair, or one and a pair
 abbrev pub qubit_places : Gate → List ℕ
 qubit_places H = 2 ∷ []
 qubit_places X = 2 ∷ []
@@ -40,18 +37,18 @@ qubit_places Cnot = 3 ∷ 4 ∷ []
 qubit_places Swap = 3 ∷ 4 ∷ []
 qubit_places Toffoli = 3 ∷ 5 ∷ 6 ∷ []
 
-abbrev pub qubits_at : List TermCell → Gate → ℕ → List ℕ
-qubits_at cs u at = map (λ k. handle_of (cell_at cs (at + k))) (qubit_places u)
+abbrev pub qubits_at : List TermCell → Gate → List ℕ
+qubits_at cs u = map (λ k. handle_of (cell_at cs k)) (qubit_places u)
 
--- the bit that is prepared, the qubit that is read, the gate that is applied, and its qubits
-abbrev pub bit_asked : List TermCell → ℕ → Bool
-bit_asked cs at = (cell_at cs (at + 2)).op == 49
+-- what the cells from a redex on ask for: the bit that is prepared, the qubit that is read, the gate that is applied
+abbrev pub bit_asked : List TermCell → Bool
+bit_asked cs = (cell_at cs 2).op == 49
 
-abbrev pub qubit_asked : List TermCell → ℕ → ℕ
-qubit_asked cs at = handle_of (cell_at cs (at + 2))
+abbrev pub qubit_asked : List TermCell → ℕ
+qubit_asked cs = handle_of (cell_at cs 2)
 
-abbrev pub gate_asked : List TermCell → ℕ → Gate
-gate_asked cs at = gate_at cs (at + 1)
+abbrev pub gate_asked : List TermCell → Gate
+gate_asked cs = or_toffoli (gate_of (cell_at cs 1).argument)
 
 -- What a register's state tells: its meaning, and the answers that are its own.
 pub record Told (C : Type 0) : Type 0 where
@@ -68,22 +65,23 @@ abbrev pub passed : {A : Type 0} → (A → Answer) → Result A RegisterFault �
 passed f (Ok x) = Ok (f x)
 passed f (Err e) = Err (Register e)
 
+-- The cells are those from the redex on.
 module _ {C : Type 0} (r : Told C) (cs : List TermCell) where
-  abbrev pub asked : Rule → ℕ → Result Answer ControllerFault
-  asked Function at = Ok Nothing
-  asked Pair at = Ok Nothing
-  asked Then at = Ok Nothing
-  asked Else at = Ok Nothing
-  asked Prepare at = passed Handle (prepare_answer r.meaning r.depth r.fresh)
-  asked Read at = passed Outcome (read_answer r.meaning r.depth (qubit_asked cs at) (r.outcome (qubit_asked cs at)))
-  asked Gates at = passed (λ _. Nothing) (gate_answer r.meaning r.depth (gate_asked cs at) (qubits_at cs (gate_asked cs at) at))
+  abbrev pub asked : Rule → Result Answer ControllerFault
+  asked Function = Ok Nothing
+  asked Pair = Ok Nothing
+  asked Then = Ok Nothing
+  asked Else = Ok Nothing
+  asked Prepare = passed Handle (prepare_answer r.meaning r.depth r.fresh)
+  asked Read = passed Outcome (read_answer r.meaning r.depth (qubit_asked cs) (r.outcome (qubit_asked cs)))
+  asked Gates = passed (λ _. Nothing) (gate_answer r.meaning r.depth (gate_asked cs) (qubits_at cs (gate_asked cs)))
 
   -- the register after its answer
-  abbrev pub after_asked : Changes C → Rule → ℕ → Meaning C
-  after_asked changes Function at = r.meaning
-  after_asked changes Pair at = r.meaning
-  after_asked changes Then at = r.meaning
-  after_asked changes Else at = r.meaning
-  after_asked changes Prepare at = after_prepare changes r.meaning r.fresh (bit_asked cs at)
-  after_asked changes Read at = after_read changes r.meaning (qubit_asked cs at) (r.outcome (qubit_asked cs at))
-  after_asked changes Gates at = after_gate changes r.meaning (gate_asked cs at) (qubits_at cs (gate_asked cs at) at)
+  abbrev pub after_asked : Changes C → Rule → Meaning C
+  after_asked changes Function = r.meaning
+  after_asked changes Pair = r.meaning
+  after_asked changes Then = r.meaning
+  after_asked changes Else = r.meaning
+  after_asked changes Prepare = after_prepare changes r.meaning r.fresh (bit_asked cs)
+  after_asked changes Read = after_read changes r.meaning (qubit_asked cs) (r.outcome (qubit_asked cs))
+  after_asked changes Gates = after_gate changes r.meaning (gate_asked cs) (qubits_at cs (gate_asked cs))

@@ -1,8 +1,8 @@
 -- One step: what it answers, and what it makes of the shot, the register and the work table.
-use Rattle.std.specs.Prelude.{◌≡◌, ℕ, ◌+◌, min, List, length, Some, None, Ok, Err, Option, Result, cond, nat_le, nat_lt}
+use Rattle.std.specs.Prelude.{◌≡◌, ℕ, ◌+◌, min, List, length, drop, Some, None, Ok, Err, Option, Result, cond, nat_le, nat_lt}
 use Rattle.calculus.specs.declared.cells.TermCell.{TermCell}
-use Rattle.finder.specs.declared.works.Rule.{Rule}
-use Rattle.finder.specs.declared.works.FindFault.{FindFault}
+use Rattle.finder.specs.declared.rules.Rule.{Rule}
+use Rattle.finder.specs.declared.faults.FindFault.{FindFault}
 use Rattle.finder.specs.Finding.{answer}
 use Rattle.registers.specs.declared.register.Register.{Ghosts}
 use Rattle.registers.specs.Meaning.{Meaning, Changes}
@@ -34,7 +34,7 @@ module _ {C : Type 0} (changes : Changes C) (r : Told C) (cs : List TermCell) wh
   abbrev pub made : Rule → ℕ → Answer → Made C
   made rule at a = record {
     cells = next_cells cs rule at a;
-    register = released_all changes (dropped (names cs) (names (next_cells cs rule at a))) (after_asked r cs changes rule at);
+    register = released_all changes (dropped (names cs) (names (next_cells cs rule at a))) (after_asked r (drop at cs) changes rule);
   }
 
   abbrev pub made_or_fault : Rule → ℕ → Result Answer ControllerFault → Result (Made C) ControllerFault
@@ -46,7 +46,7 @@ module _ {C : Type 0} (changes : Changes C) (r : Told C) (cs : List TermCell) wh
   advanced rule at =
       cond (nat_le (length cs) at) (Err NoRule)
       (cond (nat_lt 1024 (length (next_cells cs rule at Nothing))) (Err TooLong)
-      (made_or_fault rule at (asked r cs rule at)))
+      (made_or_fault rule at (asked r (drop at cs) rule)))
 
   -- the step of what the finder answers
   abbrev pub taken : Result (Option (Rule × ℕ)) FindFault → Result (Made C) ControllerFault

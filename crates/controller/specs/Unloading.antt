@@ -1,7 +1,7 @@
 -- What abandoning and collecting answer, and what they leave.
 use Rattle.std.specs.Prelude.{◌≡◌, ℕ, Bool, true, false, cond, not, ◌||◌, length, Some, None, Ok, Err, Option, Result, nat_lt}
-use Rattle.finder.specs.declared.works.Rule.{Rule}
-use Rattle.finder.specs.declared.works.FindFault.{FindFault}
+use Rattle.finder.specs.declared.rules.Rule.{Rule}
+use Rattle.finder.specs.declared.faults.FindFault.{FindFault}
 use Rattle.finder.specs.Finding.{answer}
 use Rattle.registers.specs.declared.register.Register.{Ghosts}
 use Rattle.registers.specs.Meaning.{after_clear}

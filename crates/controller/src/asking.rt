@@ -1,6 +1,6 @@
 //! What a step asks of the register.
 
-ghost use Rattle.std.specs.Prelude.{◌≡◌, ◌+◌, ◌≤◌, false, cond, not, ◌&&◌, MatchResult, slice_index_or};
+ghost use Rattle.std.specs.Prelude.{◌≡◌, false, cond, not, ◌&&◌, MatchResult, slice_index_or};
 ghost use Rattle.registers.specs.Answers.{gate_answer};
 ghost use Rattle.registers.specs.Meaning.{after_gate};
 ghost use Rattle.controller.specs.Asking.{asked, after_asked, cell_at, handle_of, gate_asked, qubits_at, told};
@@ -13,27 +13,23 @@ use finder::Rule;
 use registers::{Register, RegisterFault};
 use stepper::Answer;
 
-/// A redex: the cells of a running term, and the place of its first cell among them.
+/// A redex: the cells of a running term from its first one on.
 #[derive(Drop)]
 pub struct Redex<'a> {
     pub(crate) cells: &'a [TermCell],
-    pub(crate) at: usize,
-    ghost within: { at ≤ 1024 },
 }
 
 impl<'a> Redex<'a> {
     // The cell so many places on, or a blank one past the end.
     fn cell(&self, place: usize) -> TermCell
-        requires { place ≤ 6 }
-        ensures { result ≡ cell_at self.now.cells.now (self.now.at + place) }
+        ensures { result ≡ cell_at self.now.cells.now place }
     {
-        self.cells.get(self.at + place).copied().unwrap_or_default()
+        self.cells.get(place).copied().unwrap_or_default()
     }
 
     // The argument of the cell so many places on as a handle; what is none becomes a number that names no qubit.
     fn handle(&self, place: usize) -> u8
-        requires { place ≤ 6 }
-        ensures { result ≡ handle_of (cell_at self.now.cells.now (self.now.at + place)) }
+        ensures { result ≡ handle_of (cell_at self.now.cells.now place) }
     {
         let argument = self.cell(place).argument;
         if (argument as usize) < HANDLES {
@@ -43,19 +39,19 @@ impl<'a> Redex<'a> {
         }
     }
 
-    // The gate that the second cell names.
+    // The gate that the second cell names; where it names none, the Toffoli gate.
     fn gate(&self) -> Gate
-        ensures { result ≡ gate_asked self.now.cells.now self.now.at }
+        ensures { result ≡ gate_asked self.now.cells.now }
     {
         Gate::try_from(self.cell(1).argument).unwrap_or(Gate::Toffoli)
     }
 
     // Applies the gate to its qubits: one, a pair, or one and a pair.
     fn apply<R: Register>(&self, register: &mut R) -> Result<(), RegisterFault>
-        ensures answer { let u = gate_asked self.now.cells.now self.now.at in
-            result ≡ gate_answer (R.Register.meaning register.old) (R.Register.depth register.old) u (qubits_at self.now.cells.now u self.now.at) }
-        ensures state { let u = gate_asked self.now.cells.now self.now.at in MatchResult result
-            (λ _. R.Register.meaning register.new ≡ after_gate R.Register.changes (R.Register.meaning register.old) u (qubits_at self.now.cells.now u self.now.at))
+        ensures answer { let u = gate_asked self.now.cells.now in
+            result ≡ gate_answer (R.Register.meaning register.old) (R.Register.depth register.old) u (qubits_at self.now.cells.now u) }
+        ensures state { let u = gate_asked self.now.cells.now in MatchResult result
+            (λ _. R.Register.meaning register.new ≡ after_gate R.Register.changes (R.Register.meaning register.old) u (qubits_at self.now.cells.now u))
             (λ _. register.new ≡ register.old) }
     {
         let gate = self.gate();
@@ -72,9 +68,9 @@ impl<'a> Redex<'a> {
 
     /// Asks the register for what the rule needs, and hands on its answer.
     pub fn ask<R: Register>(&self, register: &mut R, rule: Rule) -> Result<Answer, ControllerFault>
-        ensures answer { result ≡ asked (told R.Register register.old) self.now.cells.now rule self.now.at }
+        ensures answer { result ≡ asked (told R.Register register.old) self.now.cells.now rule }
         ensures state { MatchResult result
-            (λ _. R.Register.meaning register.new ≡ after_asked (told R.Register register.old) self.now.cells.now R.Register.changes rule self.now.at)
+            (λ _. R.Register.meaning register.new ≡ after_asked (told R.Register register.old) self.now.cells.now R.Register.changes rule)
             (λ _. register.new ≡ register.old) }
     {
         match rule {

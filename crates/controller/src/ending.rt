@@ -7,6 +7,7 @@ ghost use Rattle.controller.specs.Tables.{begun_with};
 
 use crate::faults::{ControllerFault, Refusal};
 use crate::shot::Shot;
+use crate::steps::is_value;
 use calculus::{TermCell, TypeCell};
 use finder::find;
 use registers::Register;
@@ -35,17 +36,17 @@ impl Shot {
             (λ _. (value.new ≡ begun_with (held self.old).cells value.old) × (kinds.new ≡ begun_with (held self.old).kinds kinds.old))
             (λ _. (value.new ≡ value.old) × (kinds.new ≡ kinds.old)) }
     {
-        if self.cells.is_empty() {
-            return Err(ControllerFault::NothingLoaded.at(self.steps));
-        }
-        let Ok(None) = find(&self.cells) else {
-            return Err(ControllerFault::NoValue.at(self.steps));
-        };
+        ControllerFault::NothingLoaded
+            .refuse_if(self.cells.is_empty())
+            .map_err(|fault| fault.at(self.steps))?;
+        ControllerFault::NoValue
+            .refuse_if(!is_value(&find(&self.cells)))
+            .map_err(|fault| fault.at(self.steps))?;
         let len = self.cells.len();
         let kind_len = self.kinds.len();
-        if value.len() < len || kinds.len() < kind_len {
-            return Err(ControllerFault::ShortTables.at(self.steps));
-        }
+        ControllerFault::ShortTables
+            .refuse_if(value.len() < len || kinds.len() < kind_len)
+            .map_err(|fault| fault.at(self.steps))?;
         value[..len].copy_from_slice(&self.cells);
         kinds[..kind_len].copy_from_slice(&self.kinds);
         self.end(register);
@@ -59,9 +60,9 @@ impl Shot {
             (λ _. Ends R.Register self.new register.old register.new)
             (λ _. (self.new ≡ self.old) × (register.new ≡ register.old)) }
     {
-        if self.cells.is_empty() {
-            return Err(ControllerFault::NothingLoaded.at(self.steps));
-        }
+        ControllerFault::NothingLoaded
+            .refuse_if(self.cells.is_empty())
+            .map_err(|fault| fault.at(self.steps))?;
         self.end(register);
         Ok(())
     }

@@ -1,6 +1,6 @@
 //! Why a call is refused, and why a run stops.
 
-ghost use Rattle.std.specs.Prelude.{◌≡◌};
+ghost use Rattle.std.specs.Prelude.{◌≡◌, if◌then◌else◌};
 ghost use Rattle.controller.specs.declared.faults.ControllerFault.TheVariants.{NoRule, Register as ofRegister};
 ghost use Rattle.controller.specs.Faults.{fault_number};
 
@@ -46,6 +46,13 @@ impl ControllerFault {
             ControllerFault::ShortTables => 39,
             ControllerFault::Register(fault) => fault.number(),
         }
+    }
+
+    /// Refuses with the fault where the test holds.
+    pub fn refuse_if(self, test: bool) -> Result<(), ControllerFault>
+        ensures { result ≡ (if test then Err self else Ok tt) }
+    {
+        if test { Err(self) } else { Ok(()) }
     }
 
     // The refusal of a call for the fault, at a place.

@@ -18,10 +18,10 @@ use crate::shot::{Shot, refill};
 use calculus::{MOST_RUNNING_CELLS, TermCell};
 use finder::{FindFault, Rule, find};
 use registers::Register;
-use stepper::{Answer, named, next};
+use stepper::{Answer, named, next, put_next};
 
 // Whether the finder found a value.
-fn is_value(found: &Result<Option<(Rule, usize)>, FindFault>) -> bool
+pub(crate) fn is_value(found: &Result<Option<(Rule, usize)>, FindFault>) -> bool
     ensures { result ≡ is_value found.now }
 {
     matches!(found, Ok(None))
@@ -41,7 +41,7 @@ fn write_next(
     ensures fits { result ≤ length work.new }
     ensures front { take result work.new ≡ next_cells cells.now rule at answer }
 {
-    next(cells, rule, at, answer, work).unwrap()
+    put_next(cells, rule, at, answer, work).unwrap()
 }
 
 impl Shot {
@@ -49,13 +49,8 @@ impl Shot {
     fn ready(&self, work: &[TermCell]) -> Result<(), ControllerFault>
         ensures { result ≡ ready_answer (length (held self.now).cells) (length work.now) }
     {
-        if self.cells.is_empty() {
-            return Err(ControllerFault::NothingLoaded);
-        }
-        if work.len() < MOST_RUNNING_CELLS {
-            return Err(ControllerFault::ShortTable);
-        }
-        Ok(())
+        ControllerFault::NothingLoaded.refuse_if(self.cells.is_empty())?;
+        ControllerFault::ShortTable.refuse_if(work.len() < MOST_RUNNING_CELLS)
     }
 
     // The running term becomes that of some cells, by one step more.
@@ -104,13 +99,10 @@ impl Shot {
         ensures answer { result ≡ count_made (advanced R.Register.changes (told R.Register register.old) (held self.old).cells rule at) }
         ensures state { StepLeaves R.Register (advanced R.Register.changes (told R.Register register.old) (held self.old).cells rule at) self.old self.new register.old register.new work.old work.new }
     {
-        if at >= self.cells.len() {
-            return Err(ControllerFault::NoRule);
-        }
+        ControllerFault::NoRule.refuse_if(at >= self.cells.len())?;
         next(&self.cells, rule, at, Answer::Nothing, &mut []).ok_or(ControllerFault::TooLong)?;
         let redex = Redex {
-            cells: &self.cells,
-            at,
+            cells: &self.cells[at..],
         };
         let answer = redex.ask(register, rule)?;
         Ok(self.go_on(register, rule, at, answer, work))

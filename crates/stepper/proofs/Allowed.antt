@@ -6,8 +6,8 @@ use Rattle.calculus.specs.Letters.{letter, arguments_of, allowed}
 use Rattle.calculus.specs.Reading.{every}
 use Rattle.calculus.specs.declared.cells.TermCell.{TermCell}
 use Rattle.calculus.proofs.Reading.{both, T_true}
-use Rattle.finder.specs.declared.works.Rule.{Rule}
-use Rattle.finder.specs.declared.works.Rule.TheVariants.{Function, Pair, Then, Else, Prepare, Read, Gates}
+use Rattle.finder.specs.declared.rules.Rule.{Rule}
+use Rattle.finder.specs.declared.rules.Rule.TheVariants.{Function, Pair, Then, Else, Prepare, Read, Gates}
 use Rattle.stepper.specs.declared.writing.Answer.{Answer}
 use Rattle.stepper.specs.Laws.{Fits, fits_prepare, fits_read}
 use Rattle.stepper.specs.Next.{trees, left, next_cells}

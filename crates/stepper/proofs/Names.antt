@@ -3,8 +3,8 @@ use Rattle.std.proofs.Common.{◌≡◌, ℕ, ◌+◌, ◌<◌, Bool, true, fals
 use Rattle.std.proofs.lemmas.Bool.Decides.{nat_tests}
 use Rattle.std.proofs.lemmas.List.{drop_more}
 use Rattle.std.proofs.lemmas.Bool.{eq-eqb, ne_eqb, cases_eq}
+use Rattle.calculus.specs.Cells.{blank}
 use Rattle.calculus.specs.declared.cells.TermCell.{TermCell}
-use Rattle.finder.specs.Finding.{blank}
 use Rattle.stepper.specs.Naming.{name_of, is_name, names}
 
 pub name_below : (c : TermCell) (k : ℕ) → Some k ≡ name_of c → k < 32

@@ -4,9 +4,9 @@ use Rattle.std.specs.Borrow.{Bor}
 use Rattle.std.proofs.lemmas.List.{append_assoc, append-nil, length-append, length-take-le, length-drop, take_at, take_all, take-append-drop, drop_at, drop-drop}
 use Rattle.std.proofs.lemmas.Bool.{le-leb, lt-leb}
 use Rattle.std.proofs.lemmas.Bool.Decides.{nat_tests}
+use Rattle.calculus.specs.Cells.{blank}
 use Rattle.calculus.specs.Letters.{letter, arity}
 use Rattle.calculus.specs.declared.cells.TermCell.{TermCell}
-use Rattle.finder.specs.Finding.{blank}
 use Rattle.stepper.specs.declared.writing.Front.{Front}
 use Rattle.stepper.specs.Front.{Puts, PutsTrees}
 use Rattle.stepper.specs.Parts.{after}

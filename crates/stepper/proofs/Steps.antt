@@ -14,8 +14,8 @@ use Rattle.finder.specs.Laws.{Means, Asks}
 use Rattle.finder.specs.Steps.{step_rule, step_cell}
 use Rattle.finder.proofs.Places.{counted}
 use Rattle.finder.proofs.Reduction.{search_is_reduction}
-use Rattle.finder.specs.declared.works.Rule.{Rule}
-use Rattle.finder.specs.declared.works.Rule.TheVariants.{Function, Pair, Then, Else, Prepare, Read, Gates}
+use Rattle.finder.specs.declared.rules.Rule.{Rule}
+use Rattle.finder.specs.declared.rules.Rule.TheVariants.{Function, Pair, Then, Else, Prepare, Read, Gates}
 use Rattle.stepper.specs.declared.writing.Answer.{Answer}
 use Rattle.stepper.specs.declared.writing.Answer.TheVariants.{Nothing, Handle, Outcome}
 use Rattle.stepper.specs.Laws.{Closed, answer_of, Fits, fits_function, fits_pair, fits_then, fits_else, fits_prepare, fits_read, fits_gates, Answered, StepLaws}

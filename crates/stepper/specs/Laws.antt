@@ -10,8 +10,8 @@ use Rattle.calculus.specs.declared.cells.TermCell.{TermCell}
 use Rattle.finder.specs.Finding.{answer}
 use Rattle.finder.specs.Laws.{Means, Asks}
 use Rattle.finder.specs.Steps.{step_rule, step_cell}
-use Rattle.finder.specs.declared.works.Rule.{Rule}
-use Rattle.finder.specs.declared.works.Rule.TheVariants.{Function, Pair, Then, Else, Prepare, Read, Gates}
+use Rattle.finder.specs.declared.rules.Rule.{Rule}
+use Rattle.finder.specs.declared.rules.Rule.TheVariants.{Function, Pair, Then, Else, Prepare, Read, Gates}
 use Rattle.stepper.specs.declared.writing.Answer.{Answer}
 use Rattle.stepper.specs.declared.writing.Answer.TheVariants.{Nothing, Handle, Outcome}
 use Rattle.stepper.specs.Next.{next_cells}

@@ -2,8 +2,8 @@
 use Rattle.std.specs.Prelude.{◌≡◌, ℕ, true, List, [], ◌∷◌, map, codes}
 use Rattle.calculus.specs.declared.cells.TermCell.{TermCell}
 use Rattle.calculus.specs.Cells.{cell_of}
-use Rattle.finder.specs.declared.works.Rule.{Rule}
-use Rattle.finder.specs.declared.works.Rule.TheVariants.{Function, Pair, Then, Else, Prepare, Read, Gates}
+use Rattle.finder.specs.declared.rules.Rule.{Rule}
+use Rattle.finder.specs.declared.rules.Rule.TheVariants.{Function, Pair, Then, Else, Prepare, Read, Gates}
 use Rattle.stepper.specs.declared.writing.Answer.{Answer}
 use Rattle.stepper.specs.declared.writing.Answer.TheVariants.{Nothing, Handle, Outcome}
 use Rattle.stepper.specs.Naming.{names, dropped}

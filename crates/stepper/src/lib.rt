@@ -7,4 +7,4 @@ mod writing;
 
 pub use naming::named;
 pub use promises::{cells_name_what_terms_name, samples_are_stepped, steps_are_made_on_cells};
-pub use writing::{Answer, next};
+pub use writing::{Answer, next, put_next};

@@ -155,8 +155,7 @@ impl Front<'_> {
             }
             Rule::Then => {
                 self.put(first)?;
-                let (_, rest) = split_tree(rest);
-                Some(rest)
+                Some(split_tree(rest).1)
             }
             Rule::Else => {
                 let (second, rest) = split_tree(rest);
@@ -187,8 +186,9 @@ fn split_redex(cells: &[TermCell], at: usize) -> (&[TermCell], &[TermCell])
     }
 }
 
-// Puts the next term at the front of a table, if it is long enough to hold it.
-fn put_next(
+/// Counts the cells of the next term, which the rule makes at a cell with the register's answer, and writes it to the front of a
+/// table that has room for it; of any other table the cells may be overwritten.
+pub fn put_next(
     cells: &[TermCell],
     rule: Rule,
     at: usize,
@@ -206,8 +206,8 @@ fn put_next(
     Some(front.len)
 }
 
-/// Counts the cells of the next term, which the rule makes at a cell with the register's answer, and writes it to the front of
-/// the table if that is long enough; nothing where a running term may not have so many cells, and then the table stays.
+/// Counts the cells of the next term, and writes it to the front of the table if that is long enough; nothing where a running term
+/// may not have so many cells, and then the table stays.
 pub fn next(
     cells: &[TermCell],
     rule: Rule,

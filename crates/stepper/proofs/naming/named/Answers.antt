@@ -1,6 +1,6 @@
 use Rattle.std.proofs.Common.{◌≡◌, get_or, false, true, cond, Some, sym, refl, ap, ◌∙◌, arith, length-set}
 use Rattle.std.proofs.lemmas.List.{drop_all, get_or-replicate}
-use Rattle.finder.specs.Finding.{blank}
+use Rattle.calculus.specs.Cells.{blank}
 use Rattle.stepper.specs.Naming.{name_of, names}
 use Rattle.stepper.proofs.Names.{name_below, named_all, none_more, name_more}
 use Rattle.stepper.proofs.naming.named.Goals as goal

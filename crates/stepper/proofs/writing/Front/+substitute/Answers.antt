@@ -1,6 +1,6 @@
 use Rattle.std.proofs.Common.{◌≡◌, ◌+◌, [], ◌∷◌, get_or, refl, arith, rules}
+use Rattle.calculus.specs.Cells.{blank}
 use Rattle.calculus.specs.Letters.{letter}
-use Rattle.finder.specs.Finding.{blank}
 use Rattle.stepper.specs.Substitution.{depths}
 use Rattle.stepper.proofs.Substitution.{depths_lambda, depths_two, depths_let, depths_if}
 use Rattle.stepper.proofs.Puts.{cell_put, leaf_put, tree_put, tree_over, shorter, no_longer}
