@@ -1,3 +1,5 @@
 mod Fresh
 mod Handed
+mod Runs
 mod Stepped
+mod Taken

@@ -1,15 +1,16 @@
 -- What calls answer in numbers.
 use Rattle.std.specs.Prelude.{ℕ, replicate, List, Some, None, Ok, Err, Option, Result}
+use Rattle.calculus.specs.Cells.{blank}
 use Rattle.controller.specs.declared.faults.Refusal.{Refusal}
 use Rattle.controller.specs.Faults as controller
-use Rattle.finder.specs.declared.works.FindFault.{FindFault}
-use Rattle.finder.specs.declared.works.Rule.{Rule}
-use Rattle.finder.specs.declared.works.Rule.TheVariants.{Function, Pair, Then, Else, Prepare, Read, Gates}
-use Rattle.finder.specs.Finding as finder
+use Rattle.finder.specs.declared.faults.FindFault.{FindFault}
+use Rattle.finder.specs.declared.rules.Rule.{Rule}
+use Rattle.finder.specs.declared.rules.Rule.TheVariants.{Function, Pair, Then, Else, Prepare, Read, Gates}
+use Rattle.finder.specs.Faults as finder
 use Rattle.reader.specs.declared.faults.ReadFault.{ReadFault}
 use Rattle.reader.specs.Faults.{number_of}
 use Rattle.reader.specs.Reading.{Outcome, reading}
-use Rattle.verdict.specs.Faults.{fault_number, fault_cell}
+use Rattle.verdict.specs.Faults as verdict
 use Rattle.verdict.specs.declared.faults.CheckFault.{CheckFault}
 use Rattle.exported.specs.declared.answers.Verdict.{Verdict}
 
@@ -21,10 +22,10 @@ acceptance first second = record { number = 0; place = 0; first = first; second 
 
 -- the fault and its cell
 abbrev pub check_refusal : CheckFault → Verdict
-check_refusal f = refusal (fault_number f) (fault_cell f)
+check_refusal f = refusal (verdict.number_of f.reason) f.cell
 
 abbrev pub find_refusal : FindFault → Verdict
-find_refusal f = refusal (finder.fault_number f) (finder.fault_cell f)
+find_refusal f = refusal (finder.number_of f.reason) f.cell
 
 -- the fault and its line
 abbrev pub read_refusal : ReadFault → Verdict
@@ -36,7 +37,7 @@ call_refusal r = refusal (controller.fault_number r.fault) r.place
 
 -- a read into new tables of 256 kinds and 512 ops
 abbrev pub fresh_reading : List ℕ → Outcome
-fresh_reading text = reading text (replicate 256 (record { kind = 0 })) (replicate 512 (record { op = 0; argument = 0; claim = 0 }))
+fresh_reading text = reading text (replicate 256 (record { kind = 0 })) (replicate 512 blank)
 
 -- both counts, or the fault and its line
 abbrev pub verdict_of : Result (ℕ × ℕ) ReadFault → Verdict

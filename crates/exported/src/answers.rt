@@ -47,7 +47,7 @@ impl From<CheckFault> for Verdict {
     ghost from_gives = { λ fault verdict. verdict ≡ check_refusal fault };
 
     fn from(fault: CheckFault) -> Verdict {
-        refused(fault.number(), fault.cell() as u64)
+        refused(fault.number(), fault.cell as u64)
     }
 }
 
@@ -56,7 +56,7 @@ impl From<FindFault> for Verdict {
     ghost from_gives = { λ fault verdict. verdict ≡ find_refusal fault };
 
     fn from(fault: FindFault) -> Verdict {
-        refused(fault.number(), fault.cell() as u64)
+        refused(fault.number(), fault.cell as u64)
     }
 }
 

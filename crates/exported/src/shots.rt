@@ -1,6 +1,12 @@
 //! Whole runs on a tape.
 
-use crate::answers::{Verdict, accepted};
+ghost use Rattle.std.specs.Prelude.{◌≡◌, ◌≤◌, IfOk, IfSome, OnErr};
+ghost use Rattle.checker.specs.Accepting.{program_verdict};
+ghost use Rattle.controller.specs.Running.{standing};
+ghost use Rattle.exported.specs.Numbers.{kinds_seen, cells_seen};
+ghost use Rattle.exported.specs.Runs.{LoadsAndRuns, RunOf, ran, tables};
+
+use crate::answers::{Verdict, accepted, refused};
 use crate::tables::{
     Node, Pulse, TERM_PLACES, give_journal, give_terms, give_types, term_table, type_table,
 };
@@ -20,23 +26,21 @@ const PULSES: usize = 64;
 const BUDGET: u64 = 1000;
 
 // The verdict on a run: 0 at a value, 1 at a spent budget, else the number of the refused step; and the steps made.
-fn ran(steps: u64, stop: Stop) -> Verdict {
+fn ran(steps: u64, stop: Stop) -> Verdict
+    ensures { result ≡ ran steps stop }
+{
     match stop {
         Stop::Value => accepted(steps, 0),
         Stop::Budget => Verdict {
             number: 1,
-            place: 0,
-            first: steps,
-            second: 0,
+            ..accepted(steps, 0)
         },
         Stop::Refused {
             fault,
             steps: place,
         } => Verdict {
-            number: fault.number(),
-            place,
             first: steps,
-            second: 0,
+            ..refused(fault.number(), place)
         },
     }
 }
@@ -47,7 +51,11 @@ fn load_and_run<R: Register>(
     program: &Accepted,
     budget: u64,
     work: &mut [TermCell],
-) -> Result<(u64, Stop), Refusal> {
+) -> Result<(u64, Stop), Refusal>
+    ensures runs { LoadsAndRuns R.Register.changes program.now.types.now program.now.terms.now budget
+        (standing R.Register controller.old.shot controller.old.register work.old) (standing R.Register controller.new.shot controller.new.register work.new) result }
+    ensures within { IfOk result (λ r. r.0 ≤ budget) }
+{
     controller.load(program)?;
     controller.run(budget, work)
 }
@@ -63,7 +71,10 @@ pub extern "C" fn ql_run(
     value: &mut [Node],
     kinds: &mut [u32],
     pulses: &mut [Pulse],
-) -> Verdict {
+) -> Verdict
+    ensures { RunOf (kinds_seen letters.now) (cells_seen nodes.now) outcomes.now budget result
+        (tables value.old kinds.old pulses.old) (tables value.new kinds.new pulses.new) (program_verdict (kinds_seen letters.now) (cells_seen nodes.now)) }
+{
     let (types, terms) = (type_table(letters), term_table::<TERM_PLACES>(nodes));
     let program = match check(types.as_slice(), terms.as_slice()) {
         Ok(program) => program,
@@ -94,7 +105,9 @@ pub extern "C" fn ql_run_often(
     outcomes: &[u8],
     budget: u64,
     times: u64,
-) -> u64 {
+) -> u64
+    ensures { OnErr (program_verdict (kinds_seen letters.now) (cells_seen nodes.now)) (result ≡ 0) }
+{
     let (types, terms) = (type_table(letters), term_table::<TERM_PLACES>(nodes));
     let Ok(program) = check(types.as_slice(), terms.as_slice()) else {
         return 0;
@@ -115,7 +128,9 @@ fn shot(
     types: &mut [TypeCell],
     terms: &mut [TermCell],
     work: &mut [TermCell],
-) -> Option<u64> {
+) -> Option<u64>
+    ensures { IfSome result (λ steps. steps ≤ 1000) }
+{
     let (type_count, term_count) = read(text, types, terms).ok()?;
     let program = check(&types[..type_count], &terms[..term_count]).ok()?;
     let mut kinds = [TypeCell::default(); MOST_TYPE_CELLS];

@@ -3,7 +3,7 @@
 ghost use Rattle.std.specs.Prelude.{◌≡◌, ◌≤◌};
 ghost use Rattle.finder.specs.Finding.{answer as find_answer};
 ghost use Rattle.exported.specs.Numbers.{running_seen};
-ghost use Rattle.exported.specs.Steps.{answer_of, stepped, stepped_to};
+ghost use Rattle.exported.specs.Steps.{answer_of, step_verdict, stepped, stepped_to};
 ghost use Rattle.exported.specs.Verdicts.{rule_number, located};
 
 use crate::answers::{Verdict, accepted, refused};
@@ -11,7 +11,7 @@ use crate::tables::{Node, RUNNING_PLACES, give_terms, term_table};
 use calculus::{MOST_RUNNING_CELLS, TermCell};
 use controller::ControllerFault;
 use finder::{Rule, find};
-use stepper::{Answer, next};
+use stepper::{Answer, next, put_next};
 
 // The number of a rule, from 1 on.
 fn rule_number(rule: Rule) -> u64
@@ -63,6 +63,21 @@ pub extern "C" fn ql_find_often(nodes: &[Node], times: u64) -> u64
         .count() as u64
 }
 
+// Hands back the next term, if there is one: how many cells it has and the cell of the rule, or why there is none.
+fn next_of(cells: &[TermCell], answer: Answer, to: &mut [Node]) -> Result<(usize, usize), Verdict>
+    ensures answer { step_verdict result ≡ stepped cells.now answer (find_answer cells.now) }
+    ensures table { to.new ≡ stepped_to cells.now answer to.old (find_answer cells.now) }
+{
+    let (rule, at) = find(cells)?.ok_or(refused(ControllerFault::AtValue.number(), 0))?;
+    let mut work = [TermCell::default(); MOST_RUNNING_CELLS];
+    let count = next(cells, rule, at, answer, &mut work).ok_or(refused(
+        ControllerFault::TooLong.number(),
+        at as u64,
+    ))?;
+    give_terms(&work, to);
+    Ok((count, at))
+}
+
 /// The next term by the rule that applies and a register's answer, handed back as far as there is room, and its count;
 /// 36 or the finder's fault where no rule applies, 37 where there are too many cells, 35 at a value.
 #[unsafe(no_mangle)]
@@ -70,19 +85,10 @@ pub extern "C" fn ql_next(nodes: &[Node], answer: u64, to: &mut [Node]) -> Verdi
     ensures answer { result ≡ stepped (running_seen nodes.now) (answer_of answer) (find_answer (running_seen nodes.now)) }
     ensures table { to.new ≡ stepped_to (running_seen nodes.now) (answer_of answer) to.old (find_answer (running_seen nodes.now)) }
 {
-    let table = term_table::<RUNNING_PLACES>(nodes);
-    let cells = table.as_slice();
-    let mut work = [TermCell::default(); MOST_RUNNING_CELLS];
-    match find(cells) {
-        Ok(Some((rule, at))) => match next(cells, rule, at, answer_of(answer), &mut work) {
-            Some(count) => {
-                give_terms(&work, to);
-                accepted(count as u64, at as u64)
-            }
-            None => refused(ControllerFault::TooLong.number(), at as u64),
-        },
-        Ok(None) => refused(ControllerFault::AtValue.number(), 0),
-        Err(fault) => Verdict::from(fault),
+    let cells = term_table::<RUNNING_PLACES>(nodes);
+    match next_of(cells.as_slice(), answer_of(answer), to) {
+        Ok((count, at)) => accepted(count as u64, at as u64),
+        Err(verdict) => verdict,
     }
 }
 
@@ -91,7 +97,7 @@ fn steps(cells: &[TermCell], work: &mut [TermCell]) -> bool {
     match find(cells) {
         Ok(Some((rule, at))) => {
             next(cells, rule, at, Answer::Nothing, &mut []).is_some()
-                && next(cells, rule, at, Answer::Nothing, work).is_some()
+                && put_next(cells, rule, at, Answer::Nothing, work).is_some()
         }
         _ => false,
     }

@@ -108,8 +108,7 @@ fn taken<X: Copy, Y: Default + Drop, const ROOM: usize, F: Fn(X) -> Y>(
     ensures { (f : X → Y) → ((x : X) (y : Y) → F.post turned x y → y ≡ f x) → result.items ≡ map f (take ROOM values.now) }
 {
     let mut cells = ArrayVec::new();
-    let count = values.len().min(ROOM);
-    for value in &values[..count] {
+    for value in values.iter().take(ROOM) {
         cells.push(turned(*value));
     }
     cells

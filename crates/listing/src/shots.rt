@@ -3,13 +3,13 @@
 ghost use Rattle.std.specs.Prelude.{◌≡◌, IfOk};
 ghost use Rattle.controller.specs.Faults.{fault_number};
 ghost use Rattle.reader.specs.Faults.{number_of as read_number};
-ghost use Rattle.verdict.specs.Faults.{fault_number as check_number, fault_cell};
+ghost use Rattle.verdict.specs.Faults.{number_of as check_number};
 ghost use Rattle.listing.specs.declared.shots.Shot.TheVariants.{Refused};
-ghost use Rattle.listing.specs.Playing.{alternating, before_empty};
+ghost use Rattle.listing.specs.Playing.{alternating, before_empty, shot_of};
 
 use calculus::{MOST_RUNNING_CELLS, MOST_TERM_CELLS, MOST_TYPE_CELLS, TermCell, TypeCell};
 use controller::{Refusal, Stop};
-use player::{Reply, Turn, play as play_row};
+use player::{Done, Turn, TurnFault, play as play_row};
 use reader::{ReadFault, read};
 use registers::{Entry, Tape};
 use std::alloc::{AllocError, Global};
@@ -72,12 +72,12 @@ impl From<ReadFault> for Shot {
 }
 
 impl From<CheckFault> for Shot {
-    ghost from_gives = { λ f s. s ≡ Refused (check_number f) (fault_cell f) };
+    ghost from_gives = { λ f s. s ≡ Refused (check_number f.reason) f.cell };
 
     fn from(fault: CheckFault) -> Shot {
         Shot::Refused {
             number: fault.number(),
-            place: fault.cell() as u64,
+            place: fault.cell as u64,
         }
     }
 }
@@ -89,6 +89,17 @@ impl From<Refusal> for Shot {
         Shot::Refused {
             number: refusal.fault.number(),
             place: refusal.place,
+        }
+    }
+}
+
+impl From<TurnFault> for Shot {
+    ghost from_gives = { λ f s. s ≡ shot_of f };
+
+    fn from(fault: TurnFault) -> Shot {
+        match fault {
+            TurnFault::NotAccepted(fault) => Shot::from(fault),
+            TurnFault::Refused(refusal) => Shot::from(refusal),
         }
     }
 }
@@ -105,20 +116,17 @@ fn play_cells(heap: Global, types: &[TypeCell], terms: &[TermCell]) -> Result<Sh
         Turn::Run(BUDGET, MOST_RUNNING_CELLS),
         Turn::Collect(MOST_RUNNING_CELLS, MOST_TYPE_CELLS),
     ];
-    let mut replies = [Reply::Unplayed; 3];
+    let mut replies = [None; 3];
     let tape = Tape::new(CAPACITY, &outcomes, &mut journal);
     let controller = play_row(tape, &row, &mut work, &mut value, &mut kinds, &mut replies);
     let (steps, stop) = match replies {
-        [Reply::NotAccepted(fault), ..] => return Ok(Shot::from(fault)),
-        [Reply::Refused(refusal), ..] | [_, Reply::Refused(refusal), _] => return Ok(Shot::from(
-            refusal,
-        )),
-        [_, Reply::Ran(steps, stop), _] => (steps, stop),
+        [Some(Err(fault)), ..] | [_, Some(Err(fault)), _] => return Ok(Shot::from(fault)),
+        [_, Some(Ok(Done::Ran(steps, stop))), _] => (steps, stop),
         _ => (0, Stop::Budget),
     };
     // A run that stopped before a value has none to collect.
     let (cells, kind_cells) = match replies {
-        [.., Reply::Collected(cells, kind_cells)] => (cells, kind_cells),
+        [.., Some(Ok(Done::Collected(cells, kind_cells)))] => (cells, kind_cells),
         _ => (0, 0),
     };
     value.truncate(cells);

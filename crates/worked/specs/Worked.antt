@@ -5,13 +5,13 @@ use Rattle.calculus.specs.declared.cells.TermCell.{TermCell}
 use Rattle.calculus.specs.Cells.{cell_of}
 use Rattle.calculus.specs.Types.{Ty, bit, bang}
 use Rattle.calculus.specs.Stripping.{subtype}
-use Rattle.verdict.specs.Faults.{Verdict, accepted}
-use Rattle.verdict.specs.declared.faults.CheckFault.TheVariants.{NotWhole, UsedTwice, Captures}
+use Rattle.verdict.specs.Faults.{Verdict, accepted, fault}
+use Rattle.verdict.specs.declared.faults.CheckReason.TheVariants.{NotWhole, UsedTwice, Captures}
 use Rattle.checker.specs.Accepting.{program_verdict}
 use Rattle.finder.specs.Finding.{answer}
-use Rattle.finder.specs.declared.works.Rule.{Rule}
-use Rattle.finder.specs.declared.works.FindFault.{FindFault}
-use Rattle.finder.specs.declared.works.FindFault.TheVariants.{NoRule}
+use Rattle.finder.specs.declared.rules.Rule.{Rule}
+use Rattle.finder.specs.declared.faults.FindFault.{FindFault}
+use Rattle.finder.specs.declared.faults.FindReason.TheVariants.{NoRule}
 use Rattle.stepper.specs.Naming.{names, dropped}
 use Rattle.stepper.specs.Next.{next_cells}
 use Rattle.stepper.specs.declared.writing.Answer.{Answer}
@@ -89,16 +89,16 @@ in_both_branches = cell_of 108 0 0 ∷ cell_of 105 0 1 ∷ cell_of 48 0 3 ∷ ce
 
 abbrev pub rows : List (Question × Reply)
 rows =
-    (verdict_on (types (codes ">q*qq")) (twice 2 1), judged (Err (UsedTwice 1)))
-    ∷ (verdict_on (types (codes ">b*bb")) (twice 2 1), judged (Err (UsedTwice 1)))
+    (verdict_on (types (codes ">q*qq")) (twice 2 1), judged (Err (fault UsedTwice 1)))
+    ∷ (verdict_on (types (codes ">b*bb")) (twice 2 1), judged (Err (fault UsedTwice 1)))
     ∷ (verdict_on (types (codes ">!b*bb")) (twice 3 2), judged accepted)
-    ∷ (verdict_on (types (codes ">q!>bq")) first_of_two, judged (Err (Captures 1)))
+    ∷ (verdict_on (types (codes ">q!>bq")) first_of_two, judged (Err (fault Captures 1)))
     ∷ (verdict_on (types (codes ">qqb")) in_both_branches, judged accepted)
-    ∷ (verdict_on [] [], judged (Err (NotWhole 0)))
+    ∷ (verdict_on [] [], judged (Err (fault NotWhole 0)))
     ∷ (is_below (bang bit) bit, decided true)
     ∷ (is_below bit (bang bit), decided false)
     -- 0 applied to 1
-    ∷ (found_in (running (codes "a01")), finds (Err (NoRule 0)))
+    ∷ (found_in (running (codes "a01")), finds (Err (record { reason = NoRule; cell = 0 })))
     -- if 1 then 0 else 1
     ∷ (cells_after (running (codes "i101")) (Nothing ∷ []), left (running (codes "0")))
     -- (fun x.0)(new 0), after one step and after two
