@@ -1,8 +1,8 @@
 -- The rules of one finder under the names of the other.
 use Rattle.second.specs.declared.seeks.SecondRule.{SecondRule}
 use Rattle.second.specs.declared.seeks.SecondRule.TheVariants as second_rule
-use Rattle.finder.specs.declared.works.Rule.{Rule}
-use Rattle.finder.specs.declared.works.Rule.TheVariants.{Function, Pair, Then, Else, Prepare, Read, Gates}
+use Rattle.finder.specs.declared.rules.Rule.{Rule}
+use Rattle.finder.specs.declared.rules.Rule.TheVariants.{Function, Pair, Then, Else, Prepare, Read, Gates}
 
 abbrev pub renamed_rule : Rule → SecondRule
 renamed_rule Function = second_rule.Function

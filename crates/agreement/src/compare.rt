@@ -27,18 +27,6 @@ fn seen(text: &[u8]) -> &[u8]
     }
 }
 
-// The number that a listing refuses by, or else how its run ended.
-fn outcome(listing: &str) -> Outcome {
-    let refusal = listing.lines().find_map(|line| line
-        .strip_prefix("X ")
-        .and_then(|rest| rest.split_once(' ')));
-    match (refusal, listing.lines().next()) {
-        (Some((number, _)), _) => Outcome::ShotRefused(number.parse().unwrap_or(u16::MAX)),
-        (None, Some(head)) if head.ends_with(" 1") => Outcome::ShotBudget,
-        _ => Outcome::ShotValue,
-    }
-}
-
 /// A text's bytes, each as a character.
 pub fn shown(heap: Global, text: &[u8]) -> Result<String, AllocError> {
     text.iter().map(|b| *b as char).collect(heap)
@@ -48,13 +36,12 @@ pub fn shown(heap: Global, text: &[u8]) -> Result<String, AllocError> {
 pub fn compare_shots(rt: &HostRuntime, tally: &mut Tally, text: &[u8]) -> io::Result<bool> {
     let heap = tally.heap();
     let text = seen(text);
-    let first = listing(heap, &play(heap, text)?)?;
+    let shot = play(heap, text)?;
+    let first = listing(heap, &shot)?;
     let second = second_shot(heap, text)?;
-    if first.as_bytes() == second.as_bytes() {
-        tally.agree(outcome(first.as_str()))?;
+    if tally.compare(first == second, Outcome::from(&shot))? {
         return Ok(true);
     }
-    tally.differ();
     let program = shown(heap, text)?;
     println!(rt; "difference in the shots of\n{program}\nfirst\n{first}second\n{second}")?;
     Ok(false)
@@ -64,16 +51,15 @@ pub fn compare_shots(rt: &HostRuntime, tally: &mut Tally, text: &[u8]) -> io::Re
 pub fn compare_checks(rt: &HostRuntime, tally: &mut Tally, draft: &Draft) -> io::Result<()> {
     let first = check(&draft.types, &draft.terms)
         .err()
-        .map(|fault| (fault.number(), fault.cell()));
+        .map(|fault| (fault.number(), fault.cell));
     let second = second_check(tally.heap(), &draft.types, &draft.terms)?;
-    if first == second {
-        tally.agree(match first {
-            None => Outcome::CheckAccepted,
-            Some((number, _)) => Outcome::CheckRefused(number),
-        })?;
+    let outcome = match first {
+        None => Outcome::CheckAccepted,
+        Some((number, _)) => Outcome::CheckRefused(number),
+    };
+    if tally.compare(first == second, outcome)? {
         return Ok(());
     }
-    tally.differ();
     let program = draft.text()?;
     println!(rt; "difference in the checks of\n{program}first {first:?}\nsecond {second:?}")
 }
@@ -97,16 +83,15 @@ fn renamed(rule: Rule) -> SecondRule
 pub fn compare_finds(rt: &HostRuntime, tally: &mut Tally, cells: &[TermCell]) -> io::Result<()> {
     let first = find(cells)
         .map(|found| found.map(|(rule, cell)| (renamed(rule), cell)))
-        .map_err(|fault| (fault.number(), fault.cell()));
+        .map_err(|fault| (fault.number(), fault.cell));
     let second = second_find(tally.heap(), cells)?;
-    if first == second {
-        tally.agree(match first {
-            Ok(None) => Outcome::FindValue,
-            Ok(Some(_)) => Outcome::FindRule,
-            Err((number, _)) => Outcome::FindRefused(number),
-        })?;
+    let outcome = match first {
+        Ok(None) => Outcome::FindValue,
+        Ok(Some(_)) => Outcome::FindRule,
+        Err((number, _)) => Outcome::FindRefused(number),
+    };
+    if tally.compare(first == second, outcome)? {
         return Ok(());
     }
-    tally.differ();
     println!(rt; "difference in the finds of\n{cells:?}\nfirst {first:?}\nsecond {second:?}")
 }

@@ -3,8 +3,9 @@
 use crate::compare::{compare_checks, compare_finds, compare_shots};
 use crate::tally::Tally;
 use samples::{
-    Draft, Random, any_program, any_running, binders, copies, damage_cells, damage_text, doublings,
-    entangled, long_line, marks, pulses, rounds, term_cells, turns, type_cells,
+    Draft, Random, any_program, any_running, applied_copies, binders, damage_cells, damage_text,
+    doublings, entangled, long_line, marks, pulses, rounds, split_copies, term_cells, turns,
+    type_cells,
 };
 use std::io;
 
@@ -105,8 +106,8 @@ fn compare_runs(rt: &HostRuntime, tally: &mut Tally) -> io::Result<()> {
     let heap = tally.heap();
     for cells in 30..35 {
         for times in 30..34 {
-            compare_draft(rt, tally, &copies(heap, times, cells, false)?)?;
-            compare_draft(rt, tally, &copies(heap, times, cells, true)?)?;
+            compare_draft(rt, tally, &applied_copies(heap, times, cells)?)?;
+            compare_draft(rt, tally, &split_copies(heap, times, cells)?)?;
         }
     }
     for spent in 60..70 {

@@ -1,7 +1,10 @@
 //! How often the interpreters agreed, by outcome.
 
-ghost use Rattle.std.specs.Prelude.{◌≡◌};
+ghost use Rattle.std.specs.Prelude.{◌≡◌, ◌+◌, ◌-◌, ◌^◌, min, false, IfOk};
+ghost use Rattle.agreement.specs.Outcomes.{outcome_of};
 
+use controller::Stop;
+use listing::Shot;
 use std::alloc::{AllocError, Global};
 use std::collections::BTreeMap;
 use std::{fmt, io};
@@ -17,6 +20,22 @@ pub enum Outcome {
     FindValue,
     FindRule,
     FindRefused(u16),
+}
+
+/// The number that a shot was refused by, or else how its run ended.
+impl<'s> From<&'s Shot> for Outcome {
+    ghost from_gives = { λ shot outcome. outcome ≡ outcome_of shot.now };
+
+    fn from(shot: &'s Shot) -> Outcome {
+        match shot {
+            Shot::Refused { number, .. } => Outcome::ShotRefused(*number),
+            Shot::Ran { stop, .. } => match stop {
+                Stop::Value => Outcome::ShotValue,
+                Stop::Budget => Outcome::ShotBudget,
+                Stop::Refused { fault, .. } => Outcome::ShotRefused(fault.number()),
+            },
+        }
+    }
 }
 
 impl fmt::Display for Outcome {
@@ -61,8 +80,8 @@ impl Tally {
         self.heap
     }
 
-    /// One more comparison that agreed, with its outcome.
-    pub fn agree(&mut self, outcome: Outcome) -> Result<(), AllocError> {
+    // One more comparison that agreed, with its outcome.
+    fn agree(&mut self, outcome: Outcome) -> Result<(), AllocError> {
         if matches!(
             outcome,
             Outcome::ShotValue | Outcome::ShotBudget | Outcome::ShotRefused(_)
@@ -75,8 +94,23 @@ impl Tally {
     }
 
     /// One more difference.
-    pub fn differ(&mut self) {
+    pub fn differ(&mut self)
+        ensures { self.new.differences ≡ min (self.old.differences + 1) (2 ^ 64 - 1) }
+    {
         self.differences = self.differences.saturating_add(1);
+    }
+
+    /// One more comparison: an agreement with its outcome, or else a difference. Answers which it was.
+    pub fn compare(&mut self, is_same: bool, outcome: Outcome) -> Result<bool, AllocError>
+        ensures answer { IfOk result (λ agreed. agreed ≡ is_same) }
+        ensures difference { is_same ≡ false → self.new.differences ≡ min (self.old.differences + 1) (2 ^ 64 - 1) }
+    {
+        if is_same {
+            self.agree(outcome)?;
+        } else {
+            self.differ();
+        }
+        Ok(is_same)
     }
 
     /// A line for each outcome, then how many differences there are, and how many programs agreed.

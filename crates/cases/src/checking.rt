@@ -13,7 +13,7 @@ fn judged(heap: Global, types: &str, cells: &str) -> Result<Verdict, AllocError>
     let types = kinds(heap, types)?;
     let cells = terms(heap, cells)?;
     let refusal = check_program(types.as_slice(), cells.as_slice()).err();
-    Ok(refusal.map(|fault| (fault.number(), fault.cell())))
+    Ok(refusal.map(|fault| (fault.number(), fault.cell)))
 }
 
 // The types of a program, its term, and the verdict.
@@ -252,7 +252,7 @@ fn depths_and_lengths(rt: HostRuntime) -> Result<(), Fail> {
         types.push_str("b*bbq")?;
         let mut cells = String::new(heap);
         for i in 0..*functions {
-            cells.push_str(format!(in heap; "l.{} ", i.wrapping_mul(2))?.as_str())?;
+            write!(cells, "l.{} ", i.wrapping_mul(2))?;
         }
         cells.push_str(*body)?;
         assert_eq!(rt;

@@ -10,7 +10,7 @@ type Found = Result<Option<(Rule, usize)>, (u16, usize)>;
 
 fn look(heap: Global, text: &str) -> Result<Found, AllocError> {
     let cells = terms(heap, text)?;
-    Ok(find(cells.as_slice()).map_err(|fault| (fault.number(), fault.cell())))
+    Ok(find(cells.as_slice()).map_err(|fault| (fault.number(), fault.cell)))
 }
 
 #[rattlefmt::skip]

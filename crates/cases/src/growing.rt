@@ -1,7 +1,6 @@
 //! A step to a term of exactly 1,024 cells, and one that would make more.
 
-use crate::making::{MARK, kinds, starts_with, terms};
-use calculus::TypeCell;
+use crate::making::{KIND_MARK, MARK, kinds, starts_with, terms};
 use checker::check as check_program;
 use controller::Controller;
 use registers::{Level, Register};
@@ -27,11 +26,11 @@ fn program(heap: Global, identities: usize, zeros: usize) -> Result<(String, Str
     let mut at: usize = 5;
     for _ in 0..zeros {
         types.push_str("*b")?;
-        text.push_str(format!(in heap; "p.{at} 0.3 ")?.as_str())?;
+        write!(text, "p.{at} 0.3 ")?;
         at = at.wrapping_add(2);
     }
     types.push_str("*>bb*>bb>bb")?;
-    text.push_str(format!(in heap; "p.{at} v.2 p.{} v.2 v.2 ", at.wrapping_add(4))?.as_str())?;
+    write!(text, "p.{at} v.2 p.{} v.2 v.2 ", at.wrapping_add(4))?;
     text.push_str(long_function(heap, identities, true)?.as_str())?;
     Ok((types, text))
 }
@@ -75,7 +74,7 @@ fn grows(
     assert_eq!(rt; controller.step(&mut work)?, due.len(), "{case}");
     starts_with(rt, &work, due.as_slice(), MARK, case)?;
     let mut value = [MARK; 1024];
-    let counts = controller.collect(&mut value, &mut [TypeCell { kind: 'z' }; 64])?;
+    let counts = controller.collect(&mut value, &mut [KIND_MARK; 64])?;
     assert_eq!(rt; counts.0, due.len(), "{case}");
     starts_with(rt, &value, due.as_slice(), MARK, case)
 }

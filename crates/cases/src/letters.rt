@@ -50,7 +50,7 @@ fn ops(rt: HostRuntime) {
             );
         }
     }
-    assert_eq!(rt; op_shape('λ').is_none(), true);
+    assert!(rt; op_shape('λ').is_none());
 }
 
 #[rattlefmt::skip]

@@ -2,8 +2,8 @@
 //! The times go to standard error, since they differ from run to run.
 #![tactic(auto)]
 
-use anyhow::anyhow;
-use calculus::{TermCell, TypeCell};
+use anyhow::{bail, ensure};
+use calculus::{MOST_RUNNING_CELLS, TermCell, TypeCell};
 use checker::check;
 use finder::find;
 use std::alloc::{AllocError, Global};
@@ -45,20 +45,22 @@ fn shortest<F: FnMut() -> anyhow::Result<()>>(rt: &HostRuntime, mut call: F) -> 
 
 // A check of cells that all claim a bit.
 fn check_bits(cells: &[TermCell]) -> anyhow::Result<()> {
-    if check(&[TypeCell { kind: 'b' }], cells).is_err() {
-        return Err(anyhow!("the conditions are not accepted"));
-    }
+    ensure!(
+        check(&[TypeCell { kind: 'b' }], cells).is_ok(),
+        "the conditions are not accepted"
+    );
     Ok(())
 }
 
 // A step on the cells: the rule found, the next term counted and then written.
 fn step(cells: &[TermCell], work: &mut [TermCell]) -> anyhow::Result<()> {
     let Ok(Some((rule, at))) = find(cells) else {
-        return Err(anyhow!("the conditions have no step"));
+        bail!("the conditions have no step");
     };
-    if next(cells, rule, at, Answer::Nothing, &mut []).is_none() {
-        return Err(anyhow!("the next term is too long"));
-    }
+    ensure!(
+        next(cells, rule, at, Answer::Nothing, &mut []).is_some(),
+        "the next term is too long"
+    );
     let _ = next(cells, rule, at, Answer::Nothing, work);
     Ok(())
 }
@@ -82,7 +84,7 @@ fn report(
 
 fn main(rt: HostRuntime) -> anyhow::Result<()> {
     let heap = rt.alloc();
-    let mut work = vec![in heap; cell('s'); 1024]?;
+    let mut work = vec![in heap; cell('s'); MOST_RUNNING_CELLS]?;
     let mut before = None;
     for layers in [21, 42, 85, 170] {
         let cells = conditions(heap, layers)?;

@@ -4,7 +4,7 @@ ghost use Rattle.std.specs.Prelude.{◌≡◌, ◌<◌, IfOk};
 
 use crate::random::Random;
 use calculus::Gate;
-use second::{Head, Kind};
+use second::{Head, Kind, same};
 use std::alloc::{AllocError, Global};
 
 /// A constant that is a function.
@@ -15,19 +15,7 @@ pub enum Function {
     Measure,
 }
 
-/// The gates, by rising number.
-pub const GATES: [Gate; 8] = [
-    Gate::H,
-    Gate::X,
-    Gate::Z,
-    Gate::S,
-    Gate::T,
-    Gate::Cnot,
-    Gate::Swap,
-    Gate::Toffoli,
-];
-
-/// The constants that are functions: the gates, then `n` and `m`.
+/// The constants that are functions: the gates by rising number, then `n` and `m`.
 pub const FUNCTIONS: [Function; 10] = [
     Function::Gate(Gate::H),
     Function::Gate(Gate::X),
@@ -40,6 +28,9 @@ pub const FUNCTIONS: [Function; 10] = [
     Function::New,
     Function::Measure,
 ];
+
+/// How many of these are gates.
+pub const GATES: usize = 8;
 
 impl Function {
     /// The op and the argument of the constant's cell.
@@ -63,6 +54,12 @@ impl Function {
             Function::New => Kind::arrow(heap, 1, Head::Bit.marked(0), Head::Qubit.marked(0)),
             Function::Measure => Kind::arrow(heap, 1, Head::Qubit.marked(0), Head::Bit.marked(1)),
         }
+    }
+
+    /// Whether the constant's argument has just this type.
+    pub fn takes(self, heap: Global, argument: &Kind) -> Result<bool, AllocError> {
+        let own = self.own(heap)?;
+        Ok(matches!(&own.head, Head::Arrow(a, _) if same(argument, a)))
     }
 }
 

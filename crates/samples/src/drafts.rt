@@ -1,6 +1,6 @@
 //! A program in the making: its two tables, and the text that stores them.
 
-ghost use Rattle.std.specs.Prelude.{◌≡◌, ◌+◌, min, vec_len, OnOk};
+ghost use Rattle.std.specs.Prelude.{◌≡◌, ◌+◌, min, length, vec_len, IfOk, OnOk};
 
 use calculus::{TermCell, TypeCell};
 use second::{Kind, write_kind};
@@ -31,18 +31,24 @@ impl Draft {
         }
     }
 
-    /// A place of the type table where a type stands, the first one, or a new one behind the table.
-    pub fn place(&mut self, kind: &Kind, is_new: bool) -> Result<u16, AllocError> {
+    /// A new place for a type, behind the table.
+    pub fn new_place(&mut self, kind: &Kind) -> Result<u16, AllocError>
+        ensures { IfOk result (λ place. place ≡ min (vec_len self.old.types) 65535) }
+    {
+        let end = self.types.len();
+        write_kind(kind, &mut self.types)?;
+        Ok(as_claim(end))
+    }
+
+    /// The first place of the type table where a type stands, or else a new one behind the table.
+    pub fn place(&mut self, kind: &Kind) -> Result<u16, AllocError> {
         let mut code = Vec::new(self.heap);
         write_kind(kind, &mut code)?;
-        let end = self.types.len();
-        if !is_new {
-            if let Some(place) = (0..end).find(|&place| self.types[place..].starts_with(&code)) {
-                return Ok(as_claim(place));
-            }
+        let mut places = 0..self.types.len();
+        match places.find(|&place| self.types[place..].starts_with(&code)) {
+            Some(place) => Ok(as_claim(place)),
+            None => self.new_place(kind),
         }
-        self.types.extend_from_slice(&code)?;
-        Ok(as_claim(end))
     }
 
     /// More type cells, by their letters.
@@ -54,7 +60,9 @@ impl Draft {
     }
 
     /// More term cells, each by its op, argument and claim.
-    pub fn cells(&mut self, cells: &[(char, u16, u16)]) -> Result<(), AllocError> {
+    pub fn cells(&mut self, cells: &[(char, u16, u16)]) -> Result<(), AllocError>
+        ensures { OnOk result (vec_len self.new.terms ≡ vec_len self.old.terms + length cells.now) }
+    {
         for (op, argument, claim) in cells {
             self.cell(*op, *argument, *claim)?;
         }

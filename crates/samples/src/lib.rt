@@ -15,4 +15,4 @@ pub use drafts::Draft;
 pub use limits::{binders, long_line, marks, term_cells, type_cells};
 pub use makers::any_program;
 pub use random::Random;
-pub use runs::{copies, doublings, entangled, pulses, rounds, turns};
+pub use runs::{applied_copies, doublings, entangled, pulses, rounds, split_copies, turns};

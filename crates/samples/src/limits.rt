@@ -1,5 +1,7 @@
 //! Programs that meet a limit, and that pass it by little, by how large they are made.
 
+ghost use Rattle.std.specs.Prelude.{◌≡◌, ◌+◌, ◌<◌, vec_len, OnOk};
+
 use crate::drafts::Draft;
 use std::alloc::{AllocError, Global};
 
@@ -21,12 +23,22 @@ pub(crate) fn wrap(draft: &mut Draft, times: usize) -> Result<(), AllocError> {
 }
 
 // A bit of five cells.
-fn five(draft: &mut Draft) -> Result<(), AllocError> {
-    draft.stored("d 0 0, p 0 4, 0 0 0, 1 0 0, v 0 0")
+fn five(draft: &mut Draft) -> Result<(), AllocError>
+    ensures { OnOk result (vec_len draft.new.terms ≡ vec_len draft.old.terms + 5) }
+{
+    draft.cells(&[
+        ('d', 0, 0),
+        ('p', 0, 4),
+        ('0', 0, 0),
+        ('1', 0, 0),
+        ('v', 0, 0),
+    ])
 }
 
 // A bit of so many cells, which may not be 2, 3, 6 or 9.
-pub(crate) fn padded(draft: &mut Draft, cells: usize) -> Result<(), AllocError> {
+pub(crate) fn padded(draft: &mut Draft, cells: usize) -> Result<(), AllocError>
+    ensures { OnOk result (0 < vec_len draft.new.terms) }
+{
     match cells % 3 {
         1 => {
             wrap(draft, cells / 3)?;

@@ -27,10 +27,12 @@ pub(crate) enum Task {
     Join,
 }
 
-// The program so far, the variables in scope, the levels of those that are spent, and the tasks, the next one last.
+// The generator that is drawn from, the program so far, the variables in scope, the levels of those that are spent, and the
+// tasks, the next one last.
 #[derive(Drop)]
-pub(crate) struct Maker {
+pub(crate) struct Maker<'r> {
     pub(crate) heap: Global,
+    pub(crate) random: &'r mut Random,
     pub(crate) draft: Draft,
     pub(crate) scope: Vec<Kind>,
     pub(crate) spent: BTreeSet<usize>,
@@ -39,16 +41,13 @@ pub(crate) struct Maker {
     pub(crate) is_careless: bool,
 }
 
-impl Maker {
-    pub(crate) fn emit(
-        &mut self,
-        random: &mut Random,
-        op: char,
-        argument: u16,
-        kind: &Kind,
-    ) -> Result<(), AllocError> {
-        let is_new = random.chance(4) && self.draft.types.len() < 150;
-        let claim = self.draft.place(kind, is_new)?;
+impl<'r> Maker<'r> {
+    pub(crate) fn emit(&mut self, op: char, argument: u16, kind: &Kind) -> Result<(), AllocError> {
+        let claim = if self.random.chance(4) && self.draft.types.len() < 150 {
+            self.draft.new_place(kind)?
+        } else {
+            self.draft.place(kind)?
+        };
         self.draft.cell(op, argument, claim)
     }
 
@@ -60,67 +59,61 @@ impl Maker {
     }
 
     // A variable in scope that may be used at a type, one of several at random.
-    fn pick(&self, random: &mut Random, kind: &Kind) -> Option<usize> {
+    fn pick(&mut self, kind: &Kind) -> Option<usize> {
+        let (spent, is_careless) = (&self.spent, self.is_careless);
+        let usable = self.scope.iter().enumerate().filter(|(level, own)| {
+            (is_careless || own.marks > 0 || !spent.contains(level)) && is_below(own, kind)
+        });
         let mut found = None;
-        let mut seen: usize = 0;
-        for (level, own) in self.scope.iter().enumerate() {
-            let is_spent = own.marks == 0 && self.spent.contains(&level);
-            if (!is_spent || self.is_careless) && is_below(own, kind) {
-                seen = seen.saturating_add(1);
-                if random.below(seen) == 0 {
-                    found = Some(level);
-                }
+        for (seen, (level, _)) in usable.enumerate() {
+            if self.random.below(seen.saturating_add(1)) == 0 {
+                found = Some(level);
             }
         }
         found
     }
 
-    fn variable(
-        &mut self,
-        random: &mut Random,
-        level: usize,
-        kind: &Kind,
-    ) -> Result<(), AllocError> {
+    fn variable(&mut self, level: usize, kind: &Kind) -> Result<(), AllocError> {
         self.spent.insert(level)?;
         let index = self.scope.len().saturating_sub(level).saturating_sub(1);
-        self.emit(random, 'v', u16::try_from(index).unwrap_or(0), kind)
+        self.emit('v', u16::try_from(index).unwrap_or(0), kind)
     }
 
     // The argument type of a function in scope that has a result, or one at random.
-    fn argument(&self, random: &mut Random, res: &Kind) -> Result<Kind, AllocError> {
+    fn argument(&mut self, res: &Kind) -> Result<Kind, AllocError> {
         for own in self.scope.iter() {
             if let Head::Arrow(a, b) = &own.head {
-                if same(b, res) && random.chance(60) {
+                if same(b, res) && self.random.chance(60) {
                     return Kind::clone(a);
                 }
             }
         }
-        let is_deeper = !random.chance(60);
-        any_kind(random, self.heap, u32::from(is_deeper), true)
+        let is_deeper = !self.random.chance(60);
+        any_kind(self.random, self.heap, u32::from(is_deeper), true)
     }
 
-    fn apply(&mut self, random: &mut Random, kind: &Kind, fuel: u32) -> Result<(), AllocError> {
-        let argument = self.argument(random, kind)?;
+    fn apply(&mut self, kind: &Kind, fuel: u32) -> Result<(), AllocError> {
+        let argument = self.argument(kind)?;
         let function = Kind::arrow(self.heap, 0, argument.clone()?, kind.clone()?)?;
-        self.emit(random, 'a', 0, kind)?;
+        self.emit('a', 0, kind)?;
         self.due(&argument, fuel)?;
         self.due(&function, fuel)
     }
 
-    fn split(&mut self, random: &mut Random, kind: &Kind, fuel: u32) -> Result<(), AllocError> {
-        let marks = usize::from(random.chance(25));
-        let a = any_kind(random, self.heap, 1, marks == 0)?;
-        let b = any_kind(random, self.heap, 1, marks == 0)?;
+    fn split(&mut self, kind: &Kind, fuel: u32) -> Result<(), AllocError> {
+        let marks = usize::from(self.random.chance(25));
+        let a = any_kind(self.random, self.heap, 1, marks == 0)?;
+        let b = any_kind(self.random, self.heap, 1, marks == 0)?;
         let (x, y) = (a.marked(marks)?, b.marked(marks)?);
-        self.emit(random, 'd', 0, kind)?;
+        self.emit('d', 0, kind)?;
         self.tasks.push(Task::Leave(self.scope.len()))?;
         self.due(kind, fuel)?;
         self.tasks.push(Task::Bind(x, y))?;
         self.due(&Kind::pair(self.heap, marks, a, b)?, fuel)
     }
 
-    fn choose(&mut self, random: &mut Random, kind: &Kind, fuel: u32) -> Result<(), AllocError> {
-        self.emit(random, 'i', 0, kind)?;
+    fn choose(&mut self, kind: &Kind, fuel: u32) -> Result<(), AllocError> {
+        self.emit('i', 0, kind)?;
         self.tasks.push(Task::Join)?;
         self.due(kind, fuel)?;
         self.tasks.push(Task::Turn)?;
@@ -130,26 +123,26 @@ impl Maker {
     }
 
     // Emits the root of a term and leaves its parts to be made.
-    fn make(&mut self, random: &mut Random, kind: &Kind, fuel: u32) -> Result<(), AllocError> {
-        if random.chance(65) {
-            if let Some(level) = self.pick(random, kind) {
-                return self.variable(random, level, kind);
+    fn make(&mut self, kind: &Kind, fuel: u32) -> Result<(), AllocError> {
+        if self.random.chance(65) {
+            if let Some(level) = self.pick(kind) {
+                return self.variable(level, kind);
             }
         }
         if fuel == 0 {
-            return self.introduce(random, kind, 0);
+            return self.introduce(kind, 0);
         }
-        match random.below(9) {
-            0 | 1 => self.apply(random, kind, fuel - 1),
-            2 | 3 => self.split(random, kind, fuel - 1),
-            4 => self.choose(random, kind, fuel - 1),
-            _ => self.introduce(random, kind, fuel - 1),
+        match self.random.below(9) {
+            0 | 1 => self.apply(kind, fuel - 1),
+            2 | 3 => self.split(kind, fuel - 1),
+            4 => self.choose(kind, fuel - 1),
+            _ => self.introduce(kind, fuel - 1),
         }
     }
 
-    fn perform(&mut self, random: &mut Random, task: Task) -> Result<(), AllocError> {
+    fn perform(&mut self, task: Task) -> Result<(), AllocError> {
         match task {
-            Task::Make(kind, fuel) => self.make(random, &kind, fuel)?,
+            Task::Make(kind, fuel) => self.make(&kind, fuel)?,
             Task::Bind(a, b) => {
                 self.scope.push(a)?;
                 self.scope.push(b)?;
@@ -185,6 +178,7 @@ pub fn any_program(
     let root = any_kind(random, heap, depth, true)?;
     let mut maker = Maker {
         heap,
+        random,
         draft: Draft::new(heap),
         scope: Vec::new(heap),
         spent: BTreeSet::new(heap),
@@ -192,11 +186,11 @@ pub fn any_program(
         tasks: Vec::new(heap),
         is_careless,
     };
-    let fuel = if random.chance(50) { 4 } else { 6 };
+    let fuel = if maker.random.chance(50) { 4 } else { 6 };
     maker.due(&root, fuel)?;
     for _ in 0..2000 {
         match maker.tasks.pop() {
-            Some(task) => maker.perform(random, task)?,
+            Some(task) => maker.perform(task)?,
             None => return Ok(maker.draft),
         }
     }

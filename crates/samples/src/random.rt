@@ -2,6 +2,8 @@
 
 ghost use Rattle.std.specs.Prelude.{◌≡◌, ◌<◌, length, Contains};
 
+use std::alloc::AllocError;
+
 /// A generator of numbers by shifts and exclusive or.
 #[derive(Drop)]
 pub struct Random {
@@ -44,6 +46,23 @@ impl Random {
         ensures { Contains choices.now result }
     {
         choices[self.below(choices.len())]
+    }
+
+    /// The first entry of a table that passes a test, from a place drawn at random on and then from the front.
+    pub(crate) fn find<T: Copy, F: Fn(T) -> Result<bool, AllocError>>(
+        &mut self,
+        table: &[T],
+        passes: F,
+    ) -> Result<Option<T>, AllocError>
+        requires { F.IsAlwaysCallable passes }
+    {
+        let (before, after) = table.split_at(self.below(table.len()));
+        for &entry in after.iter().chain(before) {
+            if passes(entry)? {
+                return Ok(Some(entry));
+            }
+        }
+        Ok(None)
     }
 
     /// Whether one draw of a hundred parts falls to the first so many.

@@ -1,35 +1,57 @@
 //! Programs whose runs meet a limit, pass it by little, or lead through much: copies, pulses, live qubits and steps.
 
+ghost use Rattle.std.specs.Prelude.{◌<◌, vec_len, IfOk, OnOk};
+
 use crate::drafts::Draft;
 use crate::limits::{common, padded, wrap};
 use std::alloc::{AllocError, Global};
 
-/// A function of so many cells that is put so many times into another's body, by an application or by a split: the term
-/// after that step has one cell more than the product of the times and one more than the cells.
-pub fn copies(
-    heap: Global,
-    times: usize,
-    cells: usize,
-    is_split: bool,
-) -> Result<Draft, AllocError> {
+// The table of programs that put a function into another's body: the shared types, and !(b>b)*b at 17.
+fn with_pair(heap: Global) -> Result<Draft, AllocError> {
     let mut draft = common(heap)?;
     draft.kinds("*!>bbb")?;
-    let copied = u16::from(is_split);
-    if is_split {
-        draft.stored("d 0 0, p 0 17, l 0 7")?;
-        padded(&mut draft, cells.saturating_sub(1))?;
-        draft.cell('0', 0, 0)?;
-    } else {
-        draft.stored("a 0 0, l 0 11")?;
-    }
+    Ok(draft)
+}
+
+// A bit through so many uses of a variable that is a function.
+fn uses(draft: &mut Draft, times: usize, index: u16) -> Result<(), AllocError>
+    ensures { OnOk result (0 < vec_len draft.new.terms) }
+{
     for _ in 0..times {
-        draft.cells(&[('a', 0, 0), ('v', copied, 1)])?;
+        draft.cells(&[('a', 0, 0), ('v', index, 1)])?;
     }
+    draft.cell('0', 0, 0)
+}
+
+// A function of so many cells.
+fn function(draft: &mut Draft, cells: usize) -> Result<(), AllocError>
+    ensures { OnOk result (0 < vec_len draft.new.terms) }
+{
+    draft.cell('l', 0, 7)?;
+    padded(draft, cells.saturating_sub(1))
+}
+
+/// A function of so many cells that an application puts so many times into another's body: the term after that step has one
+/// cell more than the product of the times and one more than the cells.
+pub fn applied_copies(heap: Global, times: usize, cells: usize) -> Result<Draft, AllocError>
+    ensures { IfOk result (λ draft. 0 < vec_len draft.terms) }
+{
+    let mut draft = with_pair(heap)?;
+    draft.stored("a 0 0, l 0 11")?;
+    uses(&mut draft, times, 0)?;
+    function(&mut draft, cells)?;
+    Ok(draft)
+}
+
+/// As `applied_copies`, but that the function is a component of a pair, and a split puts it into the body.
+pub fn split_copies(heap: Global, times: usize, cells: usize) -> Result<Draft, AllocError>
+    ensures { IfOk result (λ draft. 0 < vec_len draft.terms) }
+{
+    let mut draft = with_pair(heap)?;
+    draft.stored("d 0 0, p 0 17")?;
+    function(&mut draft, cells)?;
     draft.cell('0', 0, 0)?;
-    if !is_split {
-        draft.cell('l', 0, 7)?;
-        padded(&mut draft, cells.saturating_sub(1))?;
-    }
+    uses(&mut draft, times, 1)?;
     Ok(draft)
 }
 

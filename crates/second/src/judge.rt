@@ -1,6 +1,6 @@
 //! The typing rules on trees: the first fault in tree order, and which variables a tree uses.
 
-ghost use Rattle.std.specs.Prelude.{◌≡◌, ◌+◌, ◌<◌, ◌≤◌, length, Ok, Err, vec_len, MatchResult};
+ghost use Rattle.std.specs.Prelude.{◌≡◌, ◌+◌, ◌<◌, ◌≤◌, length, [], Ok, Err, vec_len, IfOk, MatchResult};
 ghost use Rattle.second.specs.declared.halt.Halt.TheVariants.{Fault as FaultHalt};
 ghost use Rattle.second.specs.declared.halt.Reason.TheVariants.{ClaimOutside, NoBinder, TooDeep};
 
@@ -36,15 +36,23 @@ fn is_typed(heap: Global, leaf: Constant, claim: &Kind) -> Result<bool, AllocErr
     Ok(is_below(&own, claim))
 }
 
+// The two sets of levels together.
+fn together(
+    mut left: BTreeSet<usize>,
+    mut right: BTreeSet<usize>,
+) -> Result<BTreeSet<usize>, AllocError> {
+    left.append(&mut right)?;
+    Ok(left)
+}
+
 // The two sets of levels together, where no level is in both.
 fn apart(
     site: Site,
-    mut left: BTreeSet<usize>,
-    mut right: BTreeSet<usize>,
+    left: BTreeSet<usize>,
+    right: BTreeSet<usize>,
 ) -> Result<BTreeSet<usize>, Halt> {
     Reason::UsedTwice.refuse_if(!left.is_disjoint(&right), site.cell)?;
-    left.append(&mut right)?;
-    Ok(left)
+    Ok(together(left, right)?)
 }
 
 // The levels of a body outside its binders, those below a level.
@@ -109,7 +117,9 @@ impl<'k> Judge<'k> {
     }
 
     // A constant, which uses no variable.
-    fn leaf(&self, site: Site, leaf: Constant) -> Result<BTreeSet<usize>, Halt> {
+    fn leaf(&self, site: Site, leaf: Constant) -> Result<BTreeSet<usize>, Halt>
+        ensures { IfOk result (λ used. used.keys ≡ []) }
+    {
         let is_right = is_typed(self.heap, leaf, self.claimed(site)?)?;
         Reason::WrongClaim.refuse_if(!is_right, site.cell)?;
         Ok(BTreeSet::new(self.heap))
@@ -126,7 +136,7 @@ impl<'k> Judge<'k> {
                 self.scope.push(Kind::clone(a)?)?;
                 Ok(claim.marks)
             }
-            _ => Err(Halt::Fault(Reason::WrongClaim.at(site.cell))),
+            _ => Err(Reason::WrongClaim.at(site.cell).into()),
         }
     }
 
@@ -141,8 +151,21 @@ impl<'k> Judge<'k> {
                 a.marked(pair.marks)?,
                 b.marked(pair.marks)?,
             )),
-            _ => Err(Halt::Fault(Reason::WrongClaim.at(site.cell))),
+            _ => Err(Reason::WrongClaim.at(site.cell).into()),
         }
+    }
+
+    // Enters the binders of a split.
+    fn enter_split(&mut self, (a, b): (Kind, Kind)) -> Result<(), AllocError> {
+        self.scope.push(a)?;
+        self.scope.push(b)?;
+        Ok(())
+    }
+
+    // Leaves the binders from a level on, and answers which levels below it a body used.
+    fn leave(&mut self, level: usize, used: BTreeSet<usize>) -> BTreeSet<usize> {
+        self.scope.truncate(level);
+        outside(used, level)
     }
 
     // The rule of an application: its function claims exactly what its argument and it itself claim.
@@ -164,7 +187,7 @@ impl<'k> Judge<'k> {
             Head::Pair(a, b)
                 if same(self.claimed(left)?, &a.marked(claim.marks)?)
                     && same(self.claimed(right)?, &b.marked(claim.marks)?) => Ok(()),
-            _ => Err(Halt::Fault(Reason::WrongClaim.at(site.cell))),
+            _ => Err(Reason::WrongClaim.at(site.cell).into()),
         }
     }
 
@@ -191,8 +214,7 @@ impl<'k> Judge<'k> {
             Node::Lambda(body) => {
                 let marks = self.enter_lambda(site, body.site)?;
                 let used = self.judge(body)?;
-                self.scope.truncate(level);
-                Ok(leave_lambda(site, marks, outside(used, level))?)
+                Ok(leave_lambda(site, marks, self.leave(level, used))?)
             }
             Node::Apply(function, argument) => {
                 self.test_apply(site, function.site, argument.site)?;
@@ -205,20 +227,17 @@ impl<'k> Judge<'k> {
                 apart(site, first, self.judge(right)?)
             }
             Node::Split(pair, body) => {
-                let (a, b) = self.open_split(site, pair.site, body.site)?;
+                let binders = self.open_split(site, pair.site, body.site)?;
                 let first = self.judge(pair)?;
-                self.scope.push(a)?;
-                self.scope.push(b)?;
+                self.enter_split(binders)?;
                 let used = self.judge(body)?;
-                self.scope.truncate(level);
-                apart(site, first, outside(used, level))
+                apart(site, first, self.leave(level, used))
             }
             Node::Choose(condition, one, zero) => {
                 self.test_choose(site, condition.site, one.site, zero.site)?;
                 let first = self.judge(condition)?;
-                let mut branches = self.judge(one)?;
-                branches.append(&mut self.judge(zero)?)?;
-                apart(site, first, branches)
+                let one = self.judge(one)?;
+                apart(site, first, together(one, self.judge(zero)?)?)
             }
         }
     }

@@ -48,7 +48,7 @@ pub enum Node {
     Choose(Box<Tree>, Box<Tree>, Box<Tree>),
 }
 
-// The tree that starts at the last place but those on the stack, whose top is the nearest.
+// Takes what is on top of the stack; where the stack is empty, the cells are not whole trees.
 fn pop<T>(stack: &mut Vec<T>) -> Result<T, Fault> {
     stack.pop().ok_or(Reason::NotWhole.at(0))
 }

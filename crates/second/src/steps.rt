@@ -56,12 +56,10 @@ fn bit_term(value: bool) -> Term
 // A constant applied to a value.
 fn apply_constant(leaf: Constant, value: &Term, tape: &mut Tape) -> Result<Term, Halt> {
     match (leaf, value) {
-        (Constant::New, Term::Constant(Constant::Zero)) => Ok(Term::Constant(Constant::Qubit(
-            tape.prepare(false)?,
-        ))),
-        (Constant::New, Term::Constant(Constant::One)) => Ok(Term::Constant(Constant::Qubit(
-            tape.prepare(true)?,
-        ))),
+        (Constant::New, Term::Constant(bit @ (Constant::Zero | Constant::One))) => {
+            let handle = tape.prepare(*bit == Constant::One)?;
+            Ok(Term::Constant(Constant::Qubit(handle)))
+        }
         (Constant::Measure, Term::Constant(Constant::Qubit(handle))) => Ok(bit_term(tape.read(
             *handle,
         )?)),

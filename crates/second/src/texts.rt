@@ -14,7 +14,7 @@ pub struct Stored {
 }
 
 // What the lines so far allow next; the counts are those of the end line.
-#[derive(Clone, Copy)]
+#[derive(Clone, Copy, Drop)]
 enum Section {
     Header,
     Types,
@@ -26,15 +26,12 @@ enum Section {
 fn number(field: &[u8]) -> Option<u16>
     ensures { OnSome result ((0 < length field.now) × (length field.now ≤ 5)) }
 {
-    let is_decimal = match field {
-        [b'0'] => true,
-        [b'1'..=b'9', rest @ ..] => rest.len() < 5 && rest.iter().all(|b| b.is_ascii_digit()),
-        _ => false,
-    };
-    if is_decimal {
-        str::from_utf8(field).ok()?.parse().ok()
-    } else {
-        None
+    match field {
+        [b'0'] => Some(0),
+        [b'1'..=b'9', rest @ ..] if rest.len() < 5 && rest.iter().all(|b| b.is_ascii_digit()) => {
+            str::from_utf8(field).ok()?.parse().ok()
+        }
+        _ => None,
     }
 }
 
@@ -48,99 +45,104 @@ fn letter(field: &[u8], letters: &[u8]) -> Option<char>
     }
 }
 
-fn type_line(stored: &mut Stored, kind: &[u8], line: usize) -> Result<Section, Halt> {
-    let kind = letter(kind, b"bqu!>*").ok_or(Reason::Line.at(line))?;
-    Reason::FullTable.refuse_if(stored.types.len() >= MOST_TYPE_CELLS, line)?;
-    stored.types.push(TypeCell { kind })?;
-    Ok(Section::Types)
-}
-
-fn term_line(
-    stored: &mut Stored,
-    op: &[u8],
-    argument: &[u8],
-    claim: &[u8],
-    line: usize,
-) -> Result<Section, Halt> {
-    let op = letter(op, b"v01mnsglapdiq").ok_or(Reason::Line.at(line))?;
-    let argument = number(argument).ok_or(Reason::Number.at(line))?;
-    let claim = number(claim).ok_or(Reason::Number.at(line))?;
-    Reason::FullTable.refuse_if(stored.terms.len() >= MOST_TERM_CELLS, line)?;
-    stored.terms.push(TermCell {
-        op,
-        argument,
-        claim,
-    })?;
-    Ok(Section::Terms)
-}
-
-fn end_line(types: &[u8], terms: &[u8], line: usize) -> Result<Section, Fault> {
-    let types = number(types).ok_or(Reason::Number.at(line))?;
-    let terms = number(terms).ok_or(Reason::Number.at(line))?;
-    Ok(Section::Ended(types, terms))
-}
-
-fn header_line(bytes: &[u8]) -> Result<Section, Fault> {
-    Reason::Header.refuse_if(bytes != b"QL\t1".as_slice(), 1)?;
-    Ok(Section::Types)
-}
-
-// Reads one ended line, the first being line 1.
-fn read_line(
-    heap: Global,
-    stored: &mut Stored,
+// What the ended lines of a text come to so far.
+#[derive(Drop)]
+struct Reading {
+    stored: Stored,
     section: Section,
-    bytes: &[u8],
+    // The number of the last line that ended.
     line: usize,
-) -> Result<Section, Halt> {
-    let fields = bytes.split(|b| *b == b'\t').collect::<Vec<&[u8]>>(heap)?;
-    match (section, fields.as_slice()) {
-        (Section::Header, _) => Ok(header_line(bytes)?),
-        (Section::Types, [b"T", kind]) => type_line(stored, kind, line),
-        (Section::Types | Section::Terms, [b"M", op, argument, claim]) => term_line(
-            stored, op, argument, claim, line,
-        ),
-        (Section::Types | Section::Terms, [b"E", types, terms]) => Ok(end_line(
-            types, terms, line,
-        )?),
-        _ => Err(Reason::Line.at(line).into()),
-    }
 }
 
-// What ended lines come to, of which the last is the end line, and its counts are those of the cells.
-fn finish(stored: Stored, section: Section, line: usize) -> Result<Stored, Fault> {
-    match section {
-        Section::Ended(types, terms)
-            if types as usize == stored.types.len() && terms as usize == stored.terms.len() => Ok(
-            stored,
-        ),
-        Section::Ended(_, _) => Err(Reason::End.at(line)),
-        _ => Err(Reason::End.at(line.saturating_add(1))),
+impl Reading {
+    // No line yet.
+    fn new(heap: Global) -> Reading {
+        Reading {
+            stored: Stored {
+                types: Vec::new(heap),
+                terms: Vec::new(heap),
+            },
+            section: Section::Header,
+            line: 0,
+        }
+    }
+
+    fn header_line(&self, bytes: &[u8]) -> Result<Section, Fault> {
+        Reason::Header.refuse_if(bytes != b"QL\t1".as_slice(), self.line)?;
+        Ok(Section::Types)
+    }
+
+    fn type_line(&mut self, kind: &[u8]) -> Result<Section, Halt> {
+        let kind = letter(kind, b"bqu!>*").ok_or(Reason::Line.at(self.line))?;
+        Reason::FullTable.refuse_if(self.stored.types.len() >= MOST_TYPE_CELLS, self.line)?;
+        self.stored.types.push(TypeCell { kind })?;
+        Ok(Section::Types)
+    }
+
+    fn term_line(&mut self, op: &[u8], argument: &[u8], claim: &[u8]) -> Result<Section, Halt> {
+        let op = letter(op, b"v01mnsglapdiq").ok_or(Reason::Line.at(self.line))?;
+        let argument = number(argument).ok_or(Reason::Number.at(self.line))?;
+        let claim = number(claim).ok_or(Reason::Number.at(self.line))?;
+        Reason::FullTable.refuse_if(self.stored.terms.len() >= MOST_TERM_CELLS, self.line)?;
+        self.stored.terms.push(TermCell {
+            op,
+            argument,
+            claim,
+        })?;
+        Ok(Section::Terms)
+    }
+
+    fn end_line(&self, types: &[u8], terms: &[u8]) -> Result<Section, Fault> {
+        let types = number(types).ok_or(Reason::Number.at(self.line))?;
+        let terms = number(terms).ok_or(Reason::Number.at(self.line))?;
+        Ok(Section::Ended(types, terms))
+    }
+
+    // Takes the next line, which ended.
+    fn take_line(&mut self, heap: Global, bytes: &[u8]) -> Result<(), Halt> {
+        self.line = self.line.saturating_add(1);
+        let fields = bytes.split(|b| *b == b'\t').collect::<Vec<&[u8]>>(heap)?;
+        self.section = match (self.section, fields.as_slice()) {
+            (Section::Header, _) => self.header_line(bytes)?,
+            (Section::Types, [b"T", kind]) => self.type_line(kind)?,
+            (Section::Types | Section::Terms, [b"M", op, argument, claim]) => self.term_line(
+                op, argument, claim,
+            )?,
+            (Section::Types | Section::Terms, [b"E", types, terms]) => self.end_line(types, terms)?,
+            _ => return Err(Reason::Line.at(self.line).into()),
+        };
+        Ok(())
+    }
+
+    // The fault of a last line that does not end: nothing may follow the end line, and before it a line has to end.
+    fn unended(&self) -> Fault {
+        let line = self.line.saturating_add(1);
+        match self.section {
+            Section::Ended(_, _) => Reason::Line.at(line),
+            _ => Reason::End.at(line),
+        }
+    }
+
+    // The cells, where the last line is the end line and its counts are theirs.
+    fn finish(self) -> Result<Stored, Fault> {
+        match self.section {
+            Section::Ended(types, terms)
+                if types as usize == self.stored.types.len()
+                    && terms as usize == self.stored.terms.len() => Ok(self.stored),
+            Section::Ended(_, _) => Err(Reason::End.at(self.line)),
+            _ => Err(Reason::End.at(self.line.saturating_add(1))),
+        }
     }
 }
 
 /// The cells of a stored program, or the first fault of its text with the line.
 pub fn read(heap: Global, text: &[u8]) -> Result<Stored, Halt> {
-    let mut stored = Stored {
-        types: Vec::new(heap),
-        terms: Vec::new(heap),
-    };
-    let mut section = Section::Header;
-    let mut line: usize = 0;
+    let mut reading = Reading::new(heap);
     for bytes in text.split_inclusive(|b| *b == b'\n') {
         let Some(bytes) = bytes.strip_suffix(b"\n".as_slice()) else {
-            return Err(unended(section, line.saturating_add(1)).into());
+            return Err(reading.unended().into());
         };
-        line = line.saturating_add(1);
-        section = read_line(heap, &mut stored, section, bytes, line)?;
+        reading.take_line(heap, bytes)?;
     }
-    Ok(finish(stored, section, line)?)
-}
-
-// A last line that does not end: nothing may follow the end line, and before it a line has to end.
-fn unended(section: Section, line: usize) -> Fault {
-    match section {
-        Section::Ended(_, _) => Reason::Line.at(line),
-        _ => Reason::End.at(line),
-    }
+    Ok(reading.finish()?)
 }
