@@ -6,7 +6,7 @@ use crate::twin::checker::{Accepted, check as check_tables};
 use crate::twin::controller::{Controller, Refusal, Stop};
 use crate::twin::reader::read as read_text;
 use crate::twin::registers::{Entry, Tape};
-use crate::twin::stepper::{Answer, Rule, find as find_rule, next as next_term};
+use crate::twin::stepper::{Answer, Rule, find as find_rule, next as next_term, put_next};
 use std::hint::black_box;
 
 const CAPACITY: usize = 8;
@@ -181,7 +181,7 @@ fn steps(cells: &[TermCell], work: &mut [TermCell]) -> bool {
     match find_rule(cells) {
         Ok(Some((rule, at))) => {
             next_term(cells, rule, at, Answer::Nothing, &mut []).is_some()
-                && next_term(cells, rule, at, Answer::Nothing, work).is_some()
+                && put_next(cells, rule, at, Answer::Nothing, work).is_some()
         }
         _ => false,
     }

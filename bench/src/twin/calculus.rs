@@ -9,7 +9,7 @@ pub struct TypeCell {
 }
 
 /// A cell of a term table: the letter of its op, its argument, and its claim, a place in the type table.
-#[derive(Clone, Copy, PartialEq, Eq, Debug)]
+#[derive(Clone, Copy, PartialEq, Eq, Debug, Default)]
 pub struct TermCell {
     pub op: char,
     pub argument: u16,

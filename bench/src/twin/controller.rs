@@ -313,7 +313,7 @@ impl Shot {
         };
         let answer = ask(register, running, rule, at)?;
         let before = named(running);
-        let _ = next(running, rule, at, answer, work);
+        let _ = put_next(running, rule, at, answer, work);
         let_go_unnamed(register, &before, &named(&work[0..len]));
         self.cells[0..len].copy_from_slice(&work[0..len]);
         self.len = len;

@@ -5,58 +5,36 @@ use super::trees::*;
 
 // Whether the ops from `at` on begin with the letters of a word.
 fn spells(cells: &[TermCell], at: usize, word: &[char]) -> bool {
-    let mut next = at;
-    for letter in word {
-        if next >= cells.len() {
-            return false;
-        }
-        if cells[next].op != *letter {
-            return false;
-        }
-        next += 1;
-    }
-    true
+    let rest = cells.get(at..).unwrap_or_default();
+    word.len() <= rest.len()
+        && rest
+            .iter()
+            .zip(word)
+            .all(|(cell, letter)| cell.op == *letter)
 }
 
 // Whether the tree at `at` is as many qubits as the gate of a number takes.
 fn are_operands(cells: &[TermCell], gate: u16, at: usize) -> bool {
-    match gate {
-        5 | 6 => spells(cells, at, &['p', 'q', 'q']),
-        7 => spells(cells, at, &['p', 'q', 'p', 'q', 'q']),
+    match Gate::from_number(gate) {
+        Some(Gate::Cnot | Gate::Swap) => spells(cells, at, &['p', 'q', 'q']),
+        Some(Gate::Toffoli) => spells(cells, at, &['p', 'q', 'p', 'q', 'q']),
         _ => spells(cells, at, &['q']),
     }
 }
 
 // The cell at `at`, or a blank one past the end.
 fn cell_at(cells: &[TermCell], at: usize) -> TermCell {
-    if at < cells.len() {
-        cells[at]
-    } else {
-        TermCell {
-            op: '\0',
-            argument: 0,
-            claim: 0,
-        }
-    }
-}
-
-fn given(fits: bool, rule: Rule) -> Option<Rule> {
-    if fits { Some(rule) } else { None }
+    cells.get(at).copied().unwrap_or_default()
 }
 
 // The rule for a value, by its first cell, applied to the value at `argument`.
 fn applied(function: TermCell, cells: &[TermCell], argument: usize) -> Option<Rule> {
     match function.op {
         'l' => Some(Rule::Function),
-        'n' => given(
-            spells(cells, argument, &['0']) || spells(cells, argument, &['1']),
-            Rule::Prepare,
-        ),
-        'm' => given(spells(cells, argument, &['q']), Rule::Read),
-        'g' => given(
-            are_operands(cells, function.argument, argument),
-            Rule::Gates,
-        ),
+        'n' => (spells(cells, argument, &['0']) || spells(cells, argument, &['1']))
+            .then_some(Rule::Prepare),
+        'm' => spells(cells, argument, &['q']).then_some(Rule::Read),
+        'g' => are_operands(cells, function.argument, argument).then_some(Rule::Gates),
         _ => None,
     }
 }
@@ -72,30 +50,30 @@ fn branched(condition: TermCell) -> Option<Rule> {
 
 // The rule for a let of a value, by its first cell.
 fn opened(pair: TermCell) -> Option<Rule> {
-    given(pair.op == 'p', Rule::Pair)
+    (pair.op == 'p').then_some(Rule::Pair)
 }
 
 /// One past the tree at `at`, or `at` itself where none stands there.
 pub fn past(cells: &[TermCell], at: usize) -> usize {
-    match reach(cells, at) {
-        Some(end) => end,
-        None => at,
-    }
+    reach(cells, at).unwrap_or(at)
 }
 
-// One past the tree at `at`, and what it waits for; of cells that are no whole tree the answer means nothing.
-fn work(cells: &[TermCell], at: usize) -> (usize, Work) {
+// One past the tree at `at`, and what it waits for: nothing where it is a value, and else the cell that is due, with the rule that
+// applies there, if one does. Of cells that are no whole tree the answer means nothing.
+fn work(cells: &[TermCell], at: usize) -> (usize, Option<(usize, Option<Rule>)>) {
     if at >= cells.len() {
-        return (at, Work::Done);
+        return (at, None);
     }
     let part = cell_at(cells, at + 1);
     match cells[at].op {
-        'l' => (past(cells, at), Work::Done),
+        'l' => (past(cells, at), None),
         'a' => {
             let (middle, function) = work(cells, at + 1);
             let (end, argument) = work(cells, middle);
-            let rule = applied(part, cells, middle);
-            (end, argument.or(function.or(Work::ruled(at, rule))))
+            let due = argument
+                .or(function)
+                .or_else(|| Some((at, applied(part, cells, middle))));
+            (end, due)
         }
         'p' => {
             let (middle, left) = work(cells, at + 1);
@@ -104,14 +82,15 @@ fn work(cells: &[TermCell], at: usize) -> (usize, Work) {
         }
         'd' => {
             let (middle, pair) = work(cells, at + 1);
-            (past(cells, middle), pair.or(Work::ruled(at, opened(part))))
+            let end = past(cells, middle);
+            (end, pair.or_else(|| Some((at, opened(part)))))
         }
         'i' => {
             let (middle, condition) = work(cells, at + 1);
             let end = past(cells, past(cells, middle));
-            (end, condition.or(Work::ruled(at, branched(part))))
+            (end, condition.or_else(|| Some((at, branched(part)))))
         }
-        _ => (at + 1, Work::Done),
+        _ => (at + 1, None),
     }
 }
 
@@ -123,9 +102,7 @@ fn test_cells(cells: &[TermCell]) -> Result<(), FindFault> {
     if let Some(cell) = cells.iter().position(|cell| !is_allowed(*cell)) {
         return Err(FindFault::BadCell(cell));
     }
-    let Some(end) = reach(cells, 0) else {
-        return Err(FindFault::NotWhole(0));
-    };
+    let end = reach(cells, 0).ok_or(FindFault::NotWhole(0))?;
     if end < cells.len() {
         return Err(FindFault::NotWhole(end));
     }
@@ -135,24 +112,24 @@ fn test_cells(cells: &[TermCell]) -> Result<(), FindFault> {
 /// The rule that applies to a running term and the cell it applies at, or nothing for a value; claims are disregarded.
 pub fn find(cells: &[TermCell]) -> Result<Option<(Rule, usize)>, FindFault> {
     test_cells(cells)?;
-    let (_, found) = work(cells, 0);
-    found.told()
+    let (_, Some((cell, rule))) = work(cells, 0) else {
+        return Ok(None);
+    };
+    let rule = rule.ok_or(FindFault::NoRule(cell))?;
+    Ok(Some((rule, cell)))
 }
 
 // The handle that a cell names, if it names one.
 fn name_of(cell: TermCell) -> Option<usize> {
-    if cell.op == 'q' && (cell.argument as usize) < HANDLES {
-        Some(cell.argument as usize)
-    } else {
-        None
-    }
+    let handle = cell.argument as usize;
+    (cell.op == 'q' && handle < HANDLES).then_some(handle)
 }
 
 /// Which handles the cells name.
 pub fn named(cells: &[TermCell]) -> [bool; HANDLES] {
     let mut named = [false; HANDLES];
-    for i in (0..cells.len()).rev() {
-        if let Some(handle) = name_of(cells[i]) {
+    for cell in cells {
+        if let Some(handle) = name_of(*cell) {
             named[handle] = true;
         }
     }
@@ -176,42 +153,6 @@ pub enum Rule {
     Read,
     /// A gate gets its qubits.
     Gates,
-}
-
-/// Whether a tree is a value, or a rule applies at a cell of it, or none does at the cell where one is due.
-#[derive(Clone, Copy)]
-pub enum Work {
-    Done,
-    Redex(Rule, usize),
-    Stuck(usize),
-}
-
-impl Work {
-    /// This work, or the next one where this is done.
-    pub fn or(self, next: Work) -> Work {
-        match self {
-            Work::Done => next,
-            Work::Redex(rule, cell) => Work::Redex(rule, cell),
-            Work::Stuck(cell) => Work::Stuck(cell),
-        }
-    }
-
-    /// The finder's answer from this work.
-    pub fn told(self) -> Result<Option<(Rule, usize)>, FindFault> {
-        match self {
-            Work::Done => Ok(None),
-            Work::Redex(rule, cell) => Ok(Some((rule, cell))),
-            Work::Stuck(cell) => Err(FindFault::NoRule(cell)),
-        }
-    }
-
-    /// What a cell whose worked parts are values waits for.
-    pub fn ruled(at: usize, rule: Option<Rule>) -> Work {
-        match rule {
-            Some(rule) => Work::Redex(rule, at),
-            None => Work::Stuck(at),
-        }
-    }
 }
 
 /// Why no rule is found, with the cell at fault.
@@ -269,10 +210,9 @@ fn running(op: char, argument: u16) -> TermCell {
     }
 }
 
-impl Answer {
-    // The cell that the answer is in a running term: unit for none, a qubit's name or a bit.
-    fn cell(self) -> TermCell {
-        match self {
+impl From<Answer> for TermCell {
+    fn from(answer: Answer) -> TermCell {
+        match answer {
             Answer::Nothing => running('s', 0),
             Answer::Handle(handle) => running('q', u16::from(handle)),
             Answer::Outcome(true) => running('1', 0),
@@ -281,131 +221,144 @@ impl Answer {
     }
 }
 
-// A body in which values go in for the variables of its binders: for the nearest, and under a let for the one outside it.
-#[derive(Clone, Copy)]
-struct Body<'a> {
-    cells: &'a [TermCell],
-    near: &'a [TermCell],
-    far: Option<&'a [TermCell]>,
+// The tree that the cells begin with, and the cells after it; all, where it does not end.
+fn split_tree(cells: &[TermCell]) -> (&[TermCell], &[TermCell]) {
+    let len = reach(cells, 0).unwrap_or(cells.len());
+    cells.split_at(len)
 }
 
-// Puts cells behind the first `len` of a table, if it is long enough to hold them, and answers how many there are then;
-// nothing where a running term may not have so many. So an empty table has cells only counted.
-fn put(table: &mut [TermCell], len: usize, cells: &[TermCell]) -> Option<usize> {
-    if cells.len() > MOST_RUNNING_CELLS - len {
-        return None;
-    }
-    let end = len + cells.len();
-    if end <= table.len() {
-        table[len..end].copy_from_slice(cells);
-    }
-    Some(end)
+// Cells that are put at the front of a table, one behind the other: they are counted, and written as far as the table has room for them.
+// There are never more than a running term may have. An empty table has cells only counted.
+struct Front<'a> {
+    table: &'a mut [TermCell],
+    len: usize,
 }
 
-impl Body<'_> {
-    // Puts what stands for a variable under `depth` binders: itself, a value, or what it is seen from outside.
-    fn put_variable(
-        &self,
-        cell: TermCell,
-        depth: usize,
-        table: &mut [TermCell],
-        len: usize,
-    ) -> Option<usize> {
-        let index = cell.argument as usize;
-        if index < depth {
-            return put(table, len, &[cell]);
-        }
-        match (index - depth, self.far) {
-            (0, _) => put(table, len, self.near),
-            (1, Some(far)) => put(table, len, far),
-            (_, Some(_)) => put(table, len, &[running('v', cell.argument - 2)]),
-            (_, None) => put(table, len, &[running('v', cell.argument - 1)]),
-        }
-    }
-
-    // Puts the term at `at` of the body, which stands under `depth` binders of it; answers one past the term, and the table's count.
-    fn substitute(
-        &self,
-        at: usize,
-        depth: usize,
-        table: &mut [TermCell],
-        len: usize,
-    ) -> Option<(usize, usize)> {
-        if at >= self.cells.len() {
+impl Front<'_> {
+    // Puts cells behind those that are there; nothing where a running term may not have so many.
+    fn put(&mut self, cells: &[TermCell]) -> Option<()> {
+        if cells.len() > MOST_RUNNING_CELLS - self.len {
             return None;
         }
-        let cell = self.cells[at];
-        if cell.op == 'v' {
-            return Some((at + 1, self.put_variable(cell, depth, table, len)?));
+        let end = self.len + cells.len();
+        if end <= self.table.len() {
+            self.table[self.len..end].copy_from_slice(cells);
         }
-        let len = put(table, len, &[cell])?;
+        self.len = end;
+        Some(())
+    }
+
+    // Puts what stands for a cell under `depth` binders, around which are those of the values: itself, a value, or the variable that
+    // it is without their binders.
+    fn put_cell(&mut self, cell: TermCell, depth: usize, values: &[&[TermCell]]) -> Option<()> {
+        let index = cell.argument as usize;
+        if cell.op != 'v' || index < depth {
+            return self.put(&[cell]);
+        }
+        match values.get(index - depth) {
+            Some(value) => self.put(value),
+            None => self.put(&[running('v', cell.argument - values.len() as u16)]),
+        }
+    }
+
+    // Puts what stands for the tree that the cells begin with, which has `depth` binders around it within those of the values, the
+    // nearer first; answers the cells after the tree.
+    fn substitute<'c>(
+        &mut self,
+        cells: &'c [TermCell],
+        depth: usize,
+        values: &[&[TermCell]],
+    ) -> Option<&'c [TermCell]> {
+        let [cell, rest @ ..] = cells else {
+            return Some(cells);
+        };
+        self.put_cell(*cell, depth, values)?;
         match cell.op {
-            'l' => self.substitute(at + 1, depth + 1, table, len),
+            'l' => self.substitute(rest, depth + 1, values),
             'a' | 'p' => {
-                let (second, len) = self.substitute(at + 1, depth, table, len)?;
-                self.substitute(second, depth, table, len)
+                let second = self.substitute(rest, depth, values)?;
+                self.substitute(second, depth, values)
             }
             'd' => {
-                let (body, len) = self.substitute(at + 1, depth, table, len)?;
-                self.substitute(body, depth + 2, table, len)
+                let body = self.substitute(rest, depth, values)?;
+                self.substitute(body, depth + 2, values)
             }
             'i' => {
-                let (second, len) = self.substitute(at + 1, depth, table, len)?;
-                let (third, len) = self.substitute(second, depth, table, len)?;
-                self.substitute(third, depth, table, len)
+                let second = self.substitute(rest, depth, values)?;
+                let third = self.substitute(second, depth, values)?;
+                self.substitute(third, depth, values)
             }
-            _ => Some((at + 1, len)),
+            _ => Some(rest),
+        }
+    }
+
+    // Puts what the rule leaves of the trees of its redex, with which the cells begin; answers the cells after the trees.
+    fn put_left<'c>(
+        &mut self,
+        cells: &'c [TermCell],
+        rule: Rule,
+        answer: Answer,
+    ) -> Option<&'c [TermCell]> {
+        let (first, rest) = split_tree(cells);
+        match rule {
+            Rule::Function => {
+                let (value, rest) = split_tree(rest);
+                self.substitute(cells, 0, &[value])?;
+                Some(rest)
+            }
+            Rule::Pair => {
+                let (second, body) = split_tree(rest);
+                self.substitute(body, 0, &[second, first])
+            }
+            Rule::Then => {
+                self.put(first)?;
+                let (_, rest) = split_tree(rest);
+                Some(rest)
+            }
+            Rule::Else => {
+                let (second, rest) = split_tree(rest);
+                self.put(second)?;
+                Some(rest)
+            }
+            Rule::Prepare | Rule::Read => {
+                self.put(&[TermCell::from(answer)])?;
+                Some(rest)
+            }
+            Rule::Gates => {
+                self.put(first)?;
+                Some(rest)
+            }
         }
     }
 }
 
-// The cells from one place to another, or none where they are no places of the table.
-fn part(cells: &[TermCell], from: usize, to: usize) -> &[TermCell] {
-    if from <= to && to <= cells.len() {
-        &cells[from..to]
-    } else {
-        &[]
-    }
-}
-
-// Puts what the rule leaves of the redex at `at`; answers one past the redex, and the table's count.
-fn put_left(
-    cells: &[TermCell],
-    rule: Rule,
-    at: usize,
-    answer: Answer,
-    table: &mut [TermCell],
-    len: usize,
-) -> Option<(usize, usize)> {
-    let first = at + 2;
-    let second = past(cells, first);
-    let third = past(cells, second);
-    match rule {
-        Rule::Function => {
-            let near = part(cells, second, third);
-            let (_, len) = Body {
-                cells,
-                near,
-                far: None,
-            }
-            .substitute(first, 0, table, len)?;
-            Some((third, len))
-        }
-        Rule::Pair => {
-            let near = part(cells, second, third);
-            let far = Some(part(cells, first, second));
-            let (end, len) = Body { cells, near, far }.substitute(third, 0, table, len)?;
-            Some((end, len))
-        }
-        Rule::Then => Some((third, put(table, len, part(cells, first, second))?)),
-        Rule::Else => Some((third, put(table, len, part(cells, second, third))?)),
-        Rule::Prepare | Rule::Read => Some((second, put(table, len, &[answer.cell()])?)),
-        Rule::Gates => Some((second, put(table, len, part(cells, first, second))?)),
+// The cells before a redex, and those past its first two, which begin with its trees; none, where there are no more.
+fn split_redex(cells: &[TermCell], at: usize) -> (&[TermCell], &[TermCell]) {
+    let (before, redex) = cells.split_at(at.min(cells.len()));
+    match redex {
+        [_, _, trees @ ..] => (before, trees),
+        _ => (before, &[]),
     }
 }
 
 /// Counts the cells of the next term, which the rule makes at a cell with the register's answer, and writes it to the front of
 /// the table if that is long enough; nothing where a running term may not have so many cells.
+pub fn put_next(
+    cells: &[TermCell],
+    rule: Rule,
+    at: usize,
+    answer: Answer,
+    table: &mut [TermCell],
+) -> Option<usize> {
+    let (before, trees) = split_redex(cells, at);
+    let mut front = Front { table, len: 0 };
+    front.put(before)?;
+    let rest = front.put_left(trees, rule, answer)?;
+    front.put(rest)?;
+    Some(front.len)
+}
+
+/// The same, but where a running term may not have so many cells the table stays.
 pub fn next(
     cells: &[TermCell],
     rule: Rule,
@@ -413,10 +366,9 @@ pub fn next(
     answer: Answer,
     table: &mut [TermCell],
 ) -> Option<usize> {
-    if at > MOST_RUNNING_CELLS {
-        return None;
+    let len = put_next(cells, rule, at, answer, &mut [])?;
+    if len <= table.len() {
+        return put_next(cells, rule, at, answer, table);
     }
-    let len = put(table, 0, part(cells, 0, at))?;
-    let (end, len) = put_left(cells, rule, at, answer, table, len)?;
-    put(table, len, part(cells, end, cells.len()))
+    Some(len)
 }
