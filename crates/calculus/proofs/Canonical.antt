@@ -120,7 +120,7 @@ ready Cnot p v r = let a = two_held (pair_form (canonical p v r) p v r) in (a.0 
 ready Swap p v r = let a = two_held (pair_form (canonical p v r) p v r) in (a.0 ∷ a.1 ∷ [], put a.2 on_swap)
 ready Toffoli p v r = let a = three_held (pair_form (canonical p v r) p v r) in (a.0 ∷ a.1 ∷ a.2 ∷ [], put a.3 on_toffoli)
 
-operands_way : {u : Gate} {hs : List ℕ} {v : Running} → Operands u hs v → Way v hs
+pub operands_way : {u : Gate} {hs : List ℕ} {v : Running} → Operands u hs v → Way v hs
 operands_way on_h = way_held
 operands_way on_x = way_held
 operands_way on_z = way_held

@@ -3,8 +3,9 @@ use Rattle.std.proofs.Common.{◌≡◌, ℕ, zero, suc, ◌⊎◌, Some, None, 
 use Rattle.calculus.specs.Types.{Ty, bang, arrow, tensor, bangs, Sub, sub_bit, sub_arrow, Duplicable}
 use Rattle.calculus.specs.Terms.{Var, bound, held, under, lam, Running, Free, free_var, free_lam, free_fun, free_arg, free_left, free_right, free_test, free_then, free_else, free_pair, free_body}
 use Rattle.calculus.specs.Contexts.{Context, extended, Shared, to_left, to_right, to_both, Split, DuplicableAt}
+use Rattle.calculus.specs.Stripping.{marks}
 use Rattle.calculus.specs.Typing.{Derives, Unclaimed, rule_variable, rule_constant, rule_unit, rule_function, rule_duplicable_function, rule_application, rule_pair, rule_condition, rule_let}
-use Rattle.calculus.proofs.Subtyping.{Marking, a_bang, no_bang, marking, sub_refl, sub_trans, sub_marks, sub_duplicable, marks, marks_of, pair_above, arrow_above, above_arrow, unit_above}
+use Rattle.calculus.proofs.Subtyping.{Marking, a_bang, no_bang, marking, sub_refl, sub_trans, sub_marks, sub_duplicable, marks_of, pair_above, arrow_above, above_arrow, unit_above}
 
 -- The first has what the second has, at a subtype.
 pub data AtLeast : Option Ty → Option Ty → Type 0 where

@@ -1,6 +1,7 @@
 -- The subtype test decides subtyping.
-use Rattle.std.proofs.Common.{◌≡◌, ℕ, zero, suc, Bool, true, false, not, ◌&&◌, T, ◌↔◌, sym, refl, ap, subst₂}
+use Rattle.std.proofs.Common.{◌≡◌, ℕ, zero, suc, Bool, true, false, not, ◌&&◌, T, ◌↔◌, sym, refl, subst₂}
 use Rattle.calculus.specs.Types.{Ty, bit, qbit, unit, bang, arrow, tensor, bangs, TyDiscrete, Sub, sub_bit, sub_qbit, sub_unit, sub_use, sub_keep, sub_tensor, sub_arrow}
+use Rattle.calculus.proofs.Subtyping.{sub_drop, sub_bangs, under_marks}
 use Rattle.calculus.specs.Stripping.{decided, same, marks, core, first, second, marks_fit, fit, agree, SameExact, SubtypeExact}
 
 pub T_and : (a b : Bool) → T (a && b) ↔ (T a × T b)
@@ -17,26 +18,10 @@ same_exact a b = decided_exact (TyDiscrete a b)
 pub same_refl : (a : Ty) → T (same a a)
 same_refl a = (same_exact a a).1 refl
 
-pub under_marks : (t : Ty) → t ≡ bangs (marks t) (core t)
-under_marks bit = refl
-under_marks qbit = refl
-under_marks unit = refl
-under_marks (bang t) = ap bang (under_marks t)
-under_marks (arrow a b) = refl
-under_marks (tensor a b) = refl
-
-use_marked : {a b : Ty} (n : ℕ) → Sub a b → Sub (bangs n a) b
-use_marked zero h = h
-use_marked (suc n) h = sub_use (use_marked n h)
-
-keep_marks : {a b : Ty} (n m : ℕ) → Sub a b → Sub (bangs (suc n) a) (bangs m b)
-keep_marks n zero h = use_marked (suc n) h
-keep_marks n (suc m) h = sub_keep (keep_marks n m h)
-
 marked : {a b : Ty} (n m : ℕ) → T (marks_fit n m) → Sub a b → Sub (bangs n a) (bangs m b)
-marked n zero f h = use_marked n h
+marked n zero f h = sub_drop n h
 marked zero (suc m) f h = elim f [ ]
-marked (suc n) (suc m) f h = keep_marks n (suc m) h
+marked (suc n) (suc m) f h = sub_bangs n (suc m) h
 
 abbrev Directed : Bool → Ty → Ty → Type 0
 Directed true a t = Sub a t
@@ -85,7 +70,7 @@ fits (sub_keep h) = tt
 fits (sub_tensor h k) = tt
 fits (sub_arrow h k) = tt
 
-agree_bang : (s : Bool) (a t : Ty) → agree s a (bang t) ≡ agree s a t
+pub agree_bang : (s : Bool) (a t : Ty) → agree s a (bang t) ≡ agree s a t
 agree_bang s bit t = refl
 agree_bang s qbit t = refl
 agree_bang s unit t = refl

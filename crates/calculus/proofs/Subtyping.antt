@@ -1,6 +1,7 @@
--- Subtyping is a preorder that keeps a type's head; lemmas 4 to 7.
-use Rattle.std.proofs.Common.{◌≡◌, ℕ, zero, suc, sym, refl, ap, ◌∙◌, subst}
+-- Subtyping is a preorder that keeps a type's head, which has the article's lemmas 4 to 7; and types under their marks.
+use Rattle.std.proofs.Common.{◌≡◌, ℕ, zero, suc, ◌+◌, sym, refl, ap, ◌∙◌, subst, add-zero, arith}
 use Rattle.calculus.specs.Types.{Ty, bit, qbit, unit, bang, arrow, tensor, bangs, Sub, sub_bit, sub_qbit, sub_unit, sub_use, sub_keep, sub_tensor, sub_arrow, Duplicable}
+use Rattle.calculus.specs.Stripping.{marks, core, first, second}
 
 pub sub_refl : (a : Ty) → Sub a a
 sub_refl bit = sub_bit
@@ -88,33 +89,29 @@ marking (arrow a b) = no_bang (λ d. d)
 marking (tensor a b) = no_bang (λ d. d)
 
 -- A type is some bangs before a core that begins with none.
-abbrev pub core : Ty → Ty
-core bit = bit
-core qbit = qbit
-core unit = unit
-core (bang a) = core a
-core (arrow a b) = arrow a b
-core (tensor a b) = tensor a b
-
-abbrev pub marks : Ty → ℕ
-marks bit = zero
-marks qbit = zero
-marks unit = zero
-marks (bang a) = suc (marks a)
-marks (arrow a b) = zero
-marks (tensor a b) = zero
-
-pub marked : (a : Ty) → a ≡ bangs (marks a) (core a)
-marked bit = refl
-marked qbit = refl
-marked unit = refl
-marked (bang a) = ap bang (marked a)
-marked (arrow a b) = refl
-marked (tensor a b) = refl
+pub under_marks : (a : Ty) → a ≡ bangs (marks a) (core a)
+under_marks bit = refl
+under_marks qbit = refl
+under_marks unit = refl
+under_marks (bang a) = ap bang (under_marks a)
+under_marks (arrow a b) = refl
+under_marks (tensor a b) = refl
 
 pub core_bangs : (n : ℕ) (a : Ty) → core (bangs n a) ≡ core a
 core_bangs zero a = refl
 core_bangs (suc n) a = core_bangs n a
+
+pub first_bangs : (n : ℕ) (a : Ty) → first (bangs n a) ≡ first a
+first_bangs zero a = refl
+first_bangs (suc n) a = first_bangs n a
+
+pub second_bangs : (n : ℕ) (a : Ty) → second (bangs n a) ≡ second a
+second_bangs zero a = refl
+second_bangs (suc n) a = second_bangs n a
+
+pub marks_bangs : (n : ℕ) (a : Ty) → marks (bangs n a) ≡ n + marks a
+marks_bangs zero a = omega arith
+marks_bangs (suc n) a = omega (arith, marks_bangs n a)
 
 pub sub_core : {a b : Ty} → Sub a b → Sub (core a) (core b)
 sub_core sub_bit = sub_bit
@@ -135,26 +132,22 @@ above_arrow (sub_arrow p q) = (_, _, refl, p, q)
 above_unit : {c : Ty} → Sub unit c → c ≡ unit
 above_unit sub_unit = refl
 
-marked_as : (t : Ty) {c : Ty} → core t ≡ c → t ≡ bangs (marks t) c
-marked_as t e = marked t ∙ ap (bangs (marks t)) e
+pub under_marks_is : (t c : Ty) → core t ≡ c → t ≡ bangs (marks t) c
+under_marks_is t c e = under_marks t ∙ ap (bangs (marks t)) e
 
 pub pair_above : {a b s t : Ty} (n : ℕ) → s ≡ bangs n (tensor a b) → Sub s t → (x : Ty) × (y : Ty) × (t ≡ bangs (marks t) (tensor x y)) × Sub a x × Sub b y
 pair_above {a} {b} {s} {t} n e p =
-    let q = above_pair (rw (ap core e ∙ core_bangs n (tensor a b)) at (sub_core p)) in (q.0, q.1, marked_as t q.2, q.3, q.4)
+    let q = above_pair (rw (ap core e ∙ core_bangs n (tensor a b)) at (sub_core p)) in (q.0, q.1, under_marks_is t _ q.2, q.3, q.4)
 
 pub arrow_above : {a b s t : Ty} (n : ℕ) → s ≡ bangs n (arrow a b) → Sub s t → (x : Ty) × (y : Ty) × (t ≡ bangs (marks t) (arrow x y)) × Sub x a × Sub b y
 arrow_above {a} {b} {s} {t} n e p =
-    let q = above_arrow (rw (ap core e ∙ core_bangs n (arrow a b)) at (sub_core p)) in (q.0, q.1, marked_as t q.2, q.3, q.4)
+    let q = above_arrow (rw (ap core e ∙ core_bangs n (arrow a b)) at (sub_core p)) in (q.0, q.1, under_marks_is t _ q.2, q.3, q.4)
 
 pub unit_above : {s t : Ty} (n : ℕ) → s ≡ bangs n unit → Sub s t → t ≡ bangs (marks t) unit
-unit_above {s} {t} n e p = marked_as t (above_unit (rw (ap core e ∙ core_bangs n unit) at (sub_core p)))
+unit_above {s} {t} n e p = under_marks_is t unit (above_unit (rw (ap core e ∙ core_bangs n unit) at (sub_core p)))
 
 pub marks_of : (t : Ty) (n : ℕ) (c : Ty) → marks c ≡ zero → t ≡ bangs n c → marks t ≡ n
-marks_of t n c z e = ap marks e ∙ go n
-  where
-    go : (n : ℕ) → marks (bangs n c) ≡ n
-    go zero = z
-    go (suc n) = ap suc (go n)
+marks_of t n c z e = ap marks e ∙ marks_bangs n c ∙ ap (λ k. n + k) z ∙ add-zero n
 
 pub sub_marks : {s t a b : Ty} → Sub s t → Sub a b → Sub (bangs (marks s) a) (bangs (marks t) b)
 sub_marks (sub_use p) q = sub_use (sub_marks p q)

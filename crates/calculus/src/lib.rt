@@ -1,4 +1,4 @@
-//! The letters and cells of the quantum lambda calculus, its gates and its limits.
+//! The letters and cells of the quantum lambda calculus, its gates and its limits; what cells mean, and the calculus' safety, as theorems.
 #![tactic(auto)]
 
 mod cells;

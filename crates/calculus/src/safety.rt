@@ -1,4 +1,4 @@
-//! The safety of the calculus. Each function stands for a theorem: its contract is the theorem's statement.
+//! Subtyping, typing, reduction, and the safety of the calculus. Each function stands for a theorem: its contract is the theorem's statement.
 
 ghost use Rattle.calculus.specs.Erasure.{ErasureLaws};
 ghost use Rattle.calculus.specs.Lemmas.{SubtypingLaws, TypingLaws};

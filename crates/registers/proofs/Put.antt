@@ -19,7 +19,7 @@ flip_at bits h k was inside e =
     ap (λ j. bit_of (set bits h (not (bit_of bits h))) j) (sym i) ∙ get_or-set_same bits h (not (bit_of bits h)) false inside ∙ ap not (ap (bit_of bits) i ∙ e))
     (λ other. get_or-set_other bits h k (not (bit_of bits h)) false (λ same. eqb-false h k other (sym same)) ∙ e)
 
-none_set : (n k : ℕ) → get_or (replicate n false) k false ≡ false
+pub none_set : (n k : ℕ) → get_or (replicate n false) k false ≡ false
 none_set zero k = refl
 none_set (suc n) zero = refl
 none_set (suc n) (suc k) = none_set n k

@@ -6,14 +6,14 @@ use Rattle.registers.specs.Sheet.{Call, to_prepare, to_gate, to_read, to_let_go,
 use Rattle.registers.specs.Room.{Within, Leads, RoomIsKept}
 use Rattle.registers.proofs.Accepted.{prepare_accepted}
 
-counted_more : (l : List Bool) (h : ℕ) → counted (set l h true) ≤ suc (counted l)
+pub counted_more : (l : List Bool) (h : ℕ) → counted (set l h true) ≤ suc (counted l)
 counted_more [] h = omega arith
 counted_more (true ∷ l) zero = omega arith
 counted_more (false ∷ l) zero = omega arith
 counted_more (true ∷ l) (suc h) = let r = counted_more l h in omega arith
 counted_more (false ∷ l) (suc h) = counted_more l h
 
-counted_less : (l : List Bool) (h : ℕ) → counted (set l h false) ≤ counted l
+pub counted_less : (l : List Bool) (h : ℕ) → counted (set l h false) ≤ counted l
 counted_less [] h = omega arith
 counted_less (true ∷ l) zero = omega arith
 counted_less (false ∷ l) zero = omega arith

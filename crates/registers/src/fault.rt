@@ -3,7 +3,7 @@
 ghost use Rattle.std.specs.Prelude.{◌≡◌, if◌then◌else◌};
 ghost use Rattle.registers.specs.Answers.{number_of};
 
-/// Why a register refuses a call, in the order of the numbers.
+/// Why a register refuses a call, each reason with its number.
 #[derive(Clone, Copy, PartialEq, Eq, Debug, Drop)]
 pub enum RegisterReason {
     NoPulses = 41,
@@ -27,9 +27,10 @@ impl RegisterReason {
         ensures { result ≡ (if test then Err (record { reason = self; depth = 0 }) else Ok tt) }
     {
         if test {
-            return Err(RegisterFault::new(self));
+            Err(RegisterFault::new(self))
+        } else {
+            Ok(())
         }
-        Ok(())
     }
 }
 

@@ -21,7 +21,8 @@ use Rattle.rows.specs.Places.{Place, New}
 use Rattle.rows.specs.Refusing.{most_cells, already_loaded, gate_not_made, too_long}
 use Rattle.rows.specs.Stepping.{Accepts, Acts, without, Steps}
 use Rattle.rows.specs.Doing.{running, Many, no_more, one_more, Does, refused, loads, steps, runs, collects, abandons}
-use Rattle.rows.proofs.Lists.{lit_after_true, lit_after_false, none_lit, counted_none, counted_true, counted_false}
+use Rattle.rows.proofs.Lists.{lit_after_true, lit_after_false, none_lit, counted_none}
+use Rattle.registers.proofs.Room.{counted_more, counted_less}
 use Rattle.rows.proofs.Names.{Brings, names_before, brought_named, asked_apart, gate_before}
 use Rattle.rows.proofs.Wants.{Serves}
 
@@ -61,7 +62,7 @@ module _ {C : Type 0} (changes : Changes C) where
         long = length-set r.live h true ∙ l;
         made = λ u. refl;
         capable = refl;
-        roomy = λ _. let y = counted_true r.live h in let z = room.1 in omega arith;
+        roomy = λ _. let y = counted_more r.live h in let z = room.1 in omega arith;
         live_after = λ k. lit_after_true r.live h k (omega arith);
         fresh = λ k e y. let z : ◌≡◌ {A = ℕ} 0 1 = (let w = sym (subst (Live r) e y) ∙ free.1 in cc) in omega arith;
       })
@@ -83,7 +84,7 @@ module _ {C : Type 0} (changes : Changes C) where
 
   without_counted : (hs : List ℕ) (r : Meaning C) → counted (without changes hs r).live ≤ counted r.live
   without_counted [] r = omega arith
-  without_counted (h ∷ hs) r = le_trans (without_counted hs _) (counted_false r.live h)
+  without_counted (h ∷ hs) r = le_trans (without_counted hs _) (counted_less r.live h)
 
   without_live : (hs : List ℕ) (r : Meaning C) (h : ℕ) → Live (without changes hs r) h ↔ Live r h × (In h hs → ⊥)
   without_live [] r h = ((λ x. (x, λ i. i)), λ p. p.0)

@@ -1,9 +1,10 @@
 -- The live places of a list of flags, as a rising list of handles.
-use Rattle.std.proofs.Common.{◌≡◌, ℕ, zero, suc, ◌<◌, ◌≤◌, Bool, true, false, ◌⊎◌, ◌↔◌, List, [], ◌∷◌, length, get_or, set, replicate, sym, refl, ap, ◌∙◌, subst, inl, inr, ⊎_elim, arith}
+use Rattle.std.proofs.Common.{◌≡◌, ℕ, zero, suc, ◌<◌, Bool, true, false, ◌⊎◌, ◌↔◌, List, [], ◌∷◌, length, get_or, set, replicate, sym, refl, ap, ◌∙◌, subst, inl, inr, ⊎_elim, arith}
 use native.Mathlib.Decide.{ℕ_discrete}
 use Rattle.std.proofs.lemmas.List.{get_or-set_same, get_or-set_other}
 use Rattle.calculus.specs.Names.{In, Distinct, Rising}
 use Rattle.registers.specs.Meaning.{counted}
+use Rattle.registers.proofs.Put.{none_set}
 
 pub false_true : false ≡ true → ⊥
 false_true e = let z : ◌≡◌ {A = ℕ} 0 1 = cc in omega arith
@@ -76,9 +77,7 @@ lit_within (b ∷ bs) zero e = omega arith
 lit_within (b ∷ bs) (suc h) e = let i = lit_within bs h e in omega arith
 
 pub none_lit : (n h : ℕ) → get_or (replicate n false) h false ≡ true → ⊥
-none_lit zero h e = false_true e
-none_lit (suc n) zero e = false_true e
-none_lit (suc n) (suc h) e = none_lit n h e
+none_lit n h e = false_true (sym (none_set n h) ∙ e)
 
 pub lit_after_true : (bs : List Bool) (h k : ℕ) → h < length bs → get_or (set bs h true) k false ≡ true ↔ (get_or bs k false ≡ true) ⊎ (k ≡ h)
 lit_after_true bs h k l = go (ℕ_discrete k h)
@@ -103,20 +102,6 @@ pub counted_none : (bs : List Bool) → ((h : ℕ) → get_or bs h false ≡ tru
 counted_none [] n = refl
 counted_none (true ∷ bs) n = absurd (n 0 refl)
 counted_none (false ∷ bs) n = counted_none bs (λ h. n (suc h))
-
-pub counted_true : (bs : List Bool) (h : ℕ) → counted (set bs h true) ≤ suc (counted bs)
-counted_true [] h = omega arith
-counted_true (true ∷ bs) zero = omega arith
-counted_true (false ∷ bs) zero = omega arith
-counted_true (true ∷ bs) (suc h) = let i = counted_true bs h in omega arith
-counted_true (false ∷ bs) (suc h) = counted_true bs h
-
-pub counted_false : (bs : List Bool) (h : ℕ) → counted (set bs h false) ≤ counted bs
-counted_false [] h = omega arith
-counted_false (true ∷ bs) zero = omega arith
-counted_false (false ∷ bs) zero = omega arith
-counted_false (true ∷ bs) (suc h) = let i = counted_false bs h in omega arith
-counted_false (false ∷ bs) (suc h) = counted_false bs h
 
 rising_ups : (hs : List ℕ) → Rising hs → Rising (ups hs)
 rising_ups [] r = tt

@@ -7,8 +7,9 @@ use Rattle.calculus.specs.Terms.{gate, bound, held, var, const, star, lam, app, 
 use Rattle.calculus.specs.Contexts.{Context}
 use Rattle.calculus.specs.Typing.{Derives, Unclaimed, rule_application, rule_pair, rule_condition, rule_let}
 use Rattle.calculus.specs.Reduction.{raised_var, raised, chosen, replaced, substituted, Operands, on_h, on_x, on_z, on_s, on_t, on_cnot, on_swap, on_toffoli, Effect, silent, prepares, reads, applies, Reduces, apply_function, open_pair, take_then, take_else, prepare_qubit, read_qubit, apply_gate, in_argument, in_function, in_left, in_right, in_condition, in_pair}
-use Rattle.calculus.specs.Names.{Names, Way, way_held, way_pair, In, Distinct}
+use Rattle.calculus.specs.Names.{Names, In, Distinct}
 use Rattle.rows.specs.Members.{NamesGate, gate_here, gate_lam, gate_fun, gate_arg, gate_left, gate_right, gate_test, gate_then, gate_else, gate_pair, gate_body}
+use Rattle.calculus.proofs.Canonical.{operands_way}
 use Rattle.calculus.proofs.Values.{Plain, plain_left, plain_right}
 use Rattle.calculus.proofs.Ways.{way_names, way_distinct}
 
@@ -115,16 +116,6 @@ brought_named h (in_left r) b = free_left (brought_named h r b)
 brought_named h (in_right v r) b = free_right (brought_named h r b)
 brought_named h (in_condition r) b = free_test (brought_named h r b)
 brought_named h (in_pair r) b = free_pair (brought_named h r b)
-
-operands_way : {u : Gate} {hs : List ℕ} {v : Running} → Operands u hs v → Way v hs
-operands_way on_h = way_held
-operands_way on_x = way_held
-operands_way on_z = way_held
-operands_way on_s = way_held
-operands_way on_t = way_held
-operands_way on_cnot = way_pair way_held way_held
-operands_way on_swap = way_pair way_held way_held
-operands_way on_toffoli = way_pair way_held (way_pair way_held way_held)
 
 -- A qubit that is asked for is named before.
 abbrev pub Asks : Effect → ℕ → Type 0

@@ -1,7 +1,7 @@
-//! Prefix trees over a slice of cells of any kind: a tree is a cell followed by the trees of its parts.
+//! Prefix trees over a slice of cells of any kind, a tree being a cell followed by the trees of its parts; and the first cell that fails a test.
 #![tactic(auto)]
 
-ghost use Rattle.std.specs.Prelude.{◌≡◌, ℕ, ◌-◌, ◌≤◌, Bool, ◌++◌, length, take, drop};
+ghost use Rattle.std.specs.Prelude.{◌≡◌, ℕ, Bool, length, drop};
 ghost use Rattle.trees.specs.Failing.{first_failing};
 ghost use Rattle.trees.specs.Reach.{ends, not_one_tree, copied_count, fronted, ReachLaws};
 ghost use Rattle.trees.specs.Whole.{counted};
@@ -46,21 +46,12 @@ pub fn copy<T: Cell>(cells: &[T], at: usize, to: &mut [T]) -> Option<usize>
     ensures answer { result ≡ copied_count (ends T.arity 1 (drop at cells.now) at) at (length to.old) }
     ensures table { to.new ≡ fronted result (drop at cells.now) to.old }
 {
-    match reach(cells, at) {
-        Some(end) if end - at <= to.len() => {
-            copy_range(cells, at, end, to);
-            Some(end - at)
-        }
-        _ => None,
+    let len = reach(cells, at)? - at;
+    if len > to.len() {
+        return None;
     }
-}
-
-// Copies the cells from `start` to `end` to the front of a table, whose rest stays.
-fn copy_range<T: Copy>(from: &[T], start: usize, end: usize, to: &mut [T])
-    requires { (start ≤ end) × ((end ≤ length from.now) × (end - start ≤ length to.old)) }
-    ensures { to.new ≡ take (end - start) (drop start from.now) ++ drop (end - start) to.old }
-{
-    to[0..end - start].copy_from_slice(&from[start..end]);
+    to[..len].copy_from_slice(&cells[at..at + len]);
+    Some(len)
 }
 
 /// How many whole trees the cells are, one after the other, or nothing where one is unfinished.
