@@ -11,14 +11,14 @@ use Rattle.reader.specs.declared.faults.ReadReason.TheVariants as reason
 use Rattle.reader.specs.declared.sections.Section.{Section}
 use Rattle.reader.specs.declared.sections.Section.TheVariants as section
 use Rattle.reader.specs.Cells.{kind_cell, op_cell, two_numbers, has_room}
-use Rattle.reader.specs.Lines.{Said, header, kind, term, counts, other, said}
-use Rattle.reader.specs.Reading.{Place, Left, Outcome, left, fault, agreeing, with_kind, to_kinds, with_op, to_ops, with_counts, line_read, after_line, reads}
+use Rattle.reader.specs.Lines.{Said, header, kind, term, counts, other, said, ended}
+use Rattle.reader.specs.Reading.{Place, Left, Outcome, left, fault, agreeing, with_kind, to_kinds, with_op, to_ops, line_in, line_read, after_line, reads}
 use Rattle.reader.specs.Stored.{kind_line, op_line, end_line, KindKnown, OpKnown}
 use Rattle.reader.proofs.Spellings.{Spelled, spelled, kind_is, op_is, end_is}
 use Rattle.reader.proofs.Tables.{puts, room_is}
 
-abbrev pub place : Section → ℕ → ℕ → Bool → Place
-place sec k o a = record { section = sec; kinds = k; ops = o; agrees = a }
+abbrev pub place : Section → ℕ → ℕ → Place
+place sec k o = record { section = sec; kinds = k; ops = o }
 
 -- the line of the verdict, and the lines from the end line on
 abbrev pub Verdict : Result (ℕ × ℕ) ReadFault → ℕ → ℕ → ℕ → List (List ℕ) → Type 0
@@ -77,18 +77,18 @@ module _ (due k o : ℕ) (ts : List TypeCell) (ms : List TermCell) (w : Within k
     same : (eqb i k ≡ true) × (eqb j o ≡ true) → end_line i j ≡ end_line k o
     same p = ap (λ x. end_line x j) (eqb-true i k p.0) ∙ ap (end_line k) (eqb-true j o p.1)
 
-    last : (a : Bool) → agreeing (i, j) (place section.End k o a) ≡ a → Came (line ∷ [] ∷ []) due sec k o ts ms (reads ([] ∷ []) (due + 1) (place section.End k o a) ts ms)
+    last : (a : Bool) → agreeing i j (place (section.End i j) k o) ≡ a
+        → Came (line ∷ [] ∷ []) due sec k o ts ms (left (cond a (Ok (k, o)) (fault reason.End (due + 1 - 1))) ts ms)
     last true e =
         bare (line ∷ [] ∷ []) sec (Ok (k, o))
         (moved (Ok (k, o)) due (due + 0 + 0) k (k + 0) o (o + 0) (line ∷ [] ∷ []) (omega arith) (omega arith) (omega arith)
         (refl, ap (λ l. l ∷ [] ∷ []) (is ∙ same (and_parts (eqb i k) (eqb j o) e))))
     last false e = bare (line ∷ [] ∷ []) sec (fault reason.End (due + 1 - 1)) (inl (omega arith))
 
-    pub closing : (next : List ℕ) (lines : List (List ℕ)) (a : Bool) → agreeing (i, j) (place section.End k o a) ≡ a
-        → Came (line ∷ next ∷ lines) due sec k o ts ms (reads (next ∷ lines) (due + 1) (place section.End k o a) ts ms)
-    closing [] [] a e = last a e
-    closing (b ∷ bs) [] a e = past ((b ∷ bs) ∷ [])
-    closing next (l ∷ lines) a e = past (next ∷ l ∷ lines)
+    pub closing : (next : List ℕ) (lines : List (List ℕ)) → Came (line ∷ next ∷ lines) due sec k o ts ms (reads (next ∷ lines) (due + 1) (place (section.End i j) k o) ts ms)
+    closing [] [] = last (agreeing i j (place (section.End i j) k o)) refl
+    closing (b ∷ bs) [] = past ((b ∷ bs) ∷ [])
+    closing next (l ∷ lines) = past (next ∷ l ∷ lines)
 
   -- the first line says a cell
   pub one_kind : (line : List ℕ) (ls : List (List ℕ)) (c : TypeCell) (out : Outcome) → line ≡ kind_line c → KindKnown c
@@ -127,14 +127,14 @@ abbrev pub InBody : Section → Type 0
 InBody section.Header = ⊥
 InBody section.Types = Unit {0}
 InBody section.Terms = Unit {0}
-InBody section.End = ⊥
+InBody (section.End i j) = ⊥
 
 -- what is shown of the lines after the first
 abbrev Later : List (List ℕ) → Type 0
 Later ls =
-    (due : ℕ) (sec : Section) (k o : ℕ) (a : Bool) (ts : List TypeCell) (ms : List TermCell) → InBody sec → Within k o ts ms → Came ls due sec k o ts ms (reads ls due (place sec k o a) ts ms)
+    (due : ℕ) (sec : Section) (k o : ℕ) (ts : List TypeCell) (ms : List TermCell) → InBody sec → Within k o ts ms → Came ls due sec k o ts ms (reads ls due (place sec k o) ts ms)
 
-module _ (line next : List ℕ) (lines : List (List ℕ)) (more : Later (next ∷ lines)) (due k o : ℕ) (a : Bool) (ts : List TypeCell) (ms : List TermCell) (w : Within k o ts ms) where
+module _ (line next : List ℕ) (lines : List (List ℕ)) (more : Later (next ∷ lines)) (due k o : ℕ) (ts : List TypeCell) (ms : List TermCell) (w : Within k o ts ms) where
   -- what is left once the first line's step is done
   abbrev then_reads : Left (Result Place ReadReason) → Outcome
   then_reads l = after_line due l (reads (next ∷ lines) (due + 1))
@@ -143,35 +143,35 @@ module _ (line next : List ℕ) (lines : List (List ℕ)) (more : Later (next �
   Goes sec l = Came (line ∷ next ∷ lines) due sec k o ts ms (then_reads l)
 
   put_kind : (c : TypeCell) (b : Bool) → has_room 256 ts k ≡ b → line ≡ kind_line c → KindKnown c
-      → Goes section.Types (left (to_kinds (place section.Types k o a) (cond b (Ok (k + 1)) (Err reason.Full))) (cond b (set ts k c) ts) ms)
+      → Goes section.Types (left (to_kinds (place section.Types k o) (cond b (Ok (k + 1)) (Err reason.Full))) (cond b (set ts k c) ts) ms)
   put_kind c true r e h =
       let room = room_is 256 ts k r in
       let w' : Within (k + 1) o (set ts k c) ms = record { kinds = omega (arith, length-set ts k c); ops = w.ops } in
-      one_kind due k o ts ms w line (next ∷ lines) c _ e h (more (due + 1) section.Types (k + 1) o a (set ts k c) ms tt w')
+      one_kind due k o ts ms w line (next ∷ lines) c _ e h (more (due + 1) section.Types (k + 1) o (set ts k c) ms tt w')
   put_kind c false r e h = stop due k o ts ms w (line ∷ next ∷ lines) section.Types reason.Full
 
-  kind_step : (f : List ℕ) (r : Result TypeCell ReadReason) → kind_cell f ≡ r → Spelled (kind f) line → Goes section.Types (with_kind (place section.Types k o a) r ts ms)
+  kind_step : (f : List ℕ) (r : Result TypeCell ReadReason) → kind_cell f ≡ r → Spelled (kind f) line → Goes section.Types (with_kind (place section.Types k o) r ts ms)
   kind_step f (Err e) h s = stop due k o ts ms w (line ∷ next ∷ lines) section.Types e
   kind_step f (Ok c) h s = let p = kind_is line f c s h in put_kind c (has_room 256 ts k) refl p.0 p.1
 
   put_op : (sec : Section) (c : TermCell) (b : Bool) → has_room 512 ms o ≡ b → line ≡ op_line c → OpKnown c
-      → Goes sec (left (to_ops (place section.Terms k o a) (cond b (Ok (o + 1)) (Err reason.Full))) ts (cond b (set ms o c) ms))
+      → Goes sec (left (to_ops (place section.Terms k o) (cond b (Ok (o + 1)) (Err reason.Full))) ts (cond b (set ms o c) ms))
   put_op sec c true r e h =
       let room = room_is 512 ms o r in
       let w' : Within k (o + 1) ts (set ms o c) = record { kinds = w.kinds; ops = omega (arith, length-set ms o c) } in
-      one_op due k o ts ms w line (next ∷ lines) sec c _ e h (more (due + 1) section.Terms k (o + 1) a ts (set ms o c) tt w')
+      one_op due k o ts ms w line (next ∷ lines) sec c _ e h (more (due + 1) section.Terms k (o + 1) ts (set ms o c) tt w')
   put_op sec c false r e h = stop due k o ts ms w (line ∷ next ∷ lines) sec reason.Full
 
-  op_step : (sec : Section) (f g h : List ℕ) (r : Result TermCell ReadReason) → op_cell f g h ≡ r → Spelled (term f g h) line → Goes sec (with_op (place section.Terms k o a) r ts ms)
+  op_step : (sec : Section) (f g h : List ℕ) (r : Result TermCell ReadReason) → op_cell f g h ≡ r → Spelled (term f g h) line → Goes sec (with_op (place section.Terms k o) r ts ms)
   op_step sec f g h (Err e) m s = stop due k o ts ms w (line ∷ next ∷ lines) sec e
   op_step sec f g h (Ok c) m s = let p = op_is line f g h c s m in put_op sec c (has_room 512 ms o) refl p.0 p.1
 
   end_step : (sec : Section) (f g : List ℕ) (r : Result (ℕ × ℕ) ReadReason) → two_numbers f g ≡ r → Spelled (counts f g) line
-      → Goes sec (left (with_counts (place section.End k o a) r) ts ms)
+      → Goes sec (line_in (place sec k o) (ended r) (counts f g) ts ms)
   end_step sec f g (Err e) h s = stop due k o ts ms w (line ∷ next ∷ lines) sec e
-  end_step sec f g (Ok n) h s = closing due k o ts ms w line sec n.0 n.1 (end_is line f g n s h) next lines (agreeing n (place section.End k o a)) refl
+  end_step sec f g (Ok n) h s = closing due k o ts ms w line sec n.0 n.1 (end_is line f g n s h) next lines
 
-  step : (sec : Section) (s : Said) → InBody sec → Spelled s line → Goes sec (line_read (place sec k o a) s ts ms)
+  step : (sec : Section) (s : Said) → InBody sec → Spelled s line → Goes sec (line_read (place sec k o) s ts ms)
   step section.Header s b p = absurd b
   step section.Types header b p = stop due k o ts ms w (line ∷ next ∷ lines) section.Types reason.Line
   step section.Types (kind f) b p = kind_step f (kind_cell f) refl p
@@ -183,16 +183,16 @@ module _ (line next : List ℕ) (lines : List (List ℕ)) (more : Later (next �
   step section.Terms (term f g h) b p = op_step section.Terms f g h (op_cell f g h) refl p
   step section.Terms (counts f g) b p = end_step section.Terms f g (two_numbers f g) refl p
   step section.Terms other b p = stop due k o ts ms w (line ∷ next ∷ lines) section.Terms reason.Line
-  step section.End s b p = absurd b
+  step (section.End i j) s b p = absurd b
 
-unended : (ls : List (List ℕ)) (rest : List ℕ) (due : ℕ) (sec : Section) (k o : ℕ) (a : Bool) (ts : List TypeCell) (ms : List TermCell) → InBody sec
-    → Within k o ts ms → Came ls due sec k o ts ms (reads (rest ∷ []) due (place sec k o a) ts ms)
-unended ls rest due section.Header k o a ts ms b w = absurd b
-unended ls rest due section.Types k o a ts ms b w = stop due k o ts ms w ls section.Types reason.End
-unended ls rest due section.Terms k o a ts ms b w = stop due k o ts ms w ls section.Terms reason.End
-unended ls rest due section.End k o a ts ms b w = absurd b
+unended : (ls : List (List ℕ)) (rest : List ℕ) (due : ℕ) (sec : Section) (k o : ℕ) (ts : List TypeCell) (ms : List TermCell) → InBody sec
+    → Within k o ts ms → Came ls due sec k o ts ms (reads (rest ∷ []) due (place sec k o) ts ms)
+unended ls rest due section.Header k o ts ms b w = absurd b
+unended ls rest due section.Types k o ts ms b w = stop due k o ts ms w ls section.Types reason.End
+unended ls rest due section.Terms k o ts ms b w = stop due k o ts ms w ls section.Terms reason.End
+unended ls rest due (section.End i j) k o ts ms b w = absurd b
 
 pub came : (ls : List (List ℕ)) → Later ls
-came [] due sec k o a ts ms b w = unended [] [] due sec k o a ts ms b w
-came (rest ∷ []) due sec k o a ts ms b w = unended (rest ∷ []) rest due sec k o a ts ms b w
-came (line ∷ next ∷ lines) due sec k o a ts ms b w = step line next lines (came (next ∷ lines)) due k o a ts ms w sec (said line) b (spelled line)
+came [] due sec k o ts ms b w = unended [] [] due sec k o ts ms b w
+came (rest ∷ []) due sec k o ts ms b w = unended (rest ∷ []) rest due sec k o ts ms b w
+came (line ∷ next ∷ lines) due sec k o ts ms b w = step line next lines (came (next ∷ lines)) due k o ts ms w sec (said line) b (spelled line)

@@ -1,5 +1,5 @@
 -- Reading is exact: what is accepted, what is read back, what a refused read leaves.
-use Rattle.std.proofs.Common.{◌≡◌, ℕ, ◌+◌, ◌-◌, ◌≤◌, false, ◌⊎◌, List, [], ◌∷◌, ◌++◌, map, length, take, Ok, Err, decimal, Result, sym, refl, ap, ◌∙◌, subst, inl, inr, zero-add, arith}
+use Rattle.std.proofs.Common.{◌≡◌, ℕ, ◌+◌, ◌-◌, ◌≤◌, ◌⊎◌, List, [], ◌∷◌, ◌++◌, map, length, take, Ok, Err, decimal, Result, sym, refl, ap, ◌∙◌, subst, inl, inr, zero-add, arith}
 use Rattle.std.specs.List.{AllByRecursion}
 use Rattle.std.proofs.ByRecursion.{All-append}
 use Rattle.std.proofs.lemmas.List.{append_assoc, length-append, length-map, take_at}
@@ -26,7 +26,7 @@ use Rattle.reader.proofs.Turns.{next_line}
 abbrev First : List (List ℕ) → List TypeCell → List TermCell → Outcome → Type 0
 First ls ts ms out =
     ((e : ReadReason) × (out ≡ left (fault e 1) ts ms))
-    ⊎ ((rest : List (List ℕ)) × (ls ≡ header_line ∷ rest) × (out ≡ reads rest 2 (place section.Types 0 0 false) ts ms))
+    ⊎ ((rest : List (List ℕ)) × (ls ≡ header_line ∷ rest) × (out ≡ reads rest 2 (place section.Types 0 0) ts ms))
 
 module _ (ts : List TypeCell) (ms : List TermCell) where
   first_said : (line next : List ℕ) (lines : List (List ℕ)) (s : Said) → Spelled s line → First (line ∷ next ∷ lines) ts ms (after_line 1 (line_read start s ts ms) (reads (next ∷ lines) 2))
@@ -44,8 +44,8 @@ module _ (ts : List TypeCell) (ms : List TermCell) where
   none_yet : Within 0 0 ts ms
   none_yet = record { kinds = omega arith; ops = omega arith }
 
-  later : (rest : List (List ℕ)) → Came rest 2 section.Types 0 0 ts ms (reads rest 2 (place section.Types 0 0 false) ts ms)
-  later rest = came rest 2 section.Types 0 0 false ts ms tt none_yet
+  later : (rest : List (List ℕ)) → Came rest 2 section.Types 0 0 ts ms (reads rest 2 (place section.Types 0 0) ts ms)
+  later rest = came rest 2 section.Types 0 0 ts ms tt none_yet
 
   fits : (rest : List (List ℕ)) (out : Outcome) (m : Came rest 2 section.Types 0 0 ts ms out) → Fitting m.ks m.os ts ms
   fits rest out m = record {
@@ -98,7 +98,7 @@ module _ (text : List ℕ) (ts : List TypeCell) (ms : List TermCell) where
       let m = later ts ms rest in
       let a = sym (ap (λ (o : Outcome). o.answer) q) ∙ e in
       let v = subst (λ r. Verdict r (2 + length m.ks + length m.os) (0 + length m.ks) (0 + length m.os) m.tail) a m.verdict in
-      whole rest (reads rest 2 (place section.Types 0 0 false) ts ms) m n p q v a
+      whole rest (reads rest 2 (place section.Types 0 0) ts ms) m n p q v a
 
   pub accepted : (n : ℕ × ℕ) → (reading text ts ms).answer ≡ Ok n → Accepted text ts ms
   accepted n e = accepted_by n e (first ts ms (pieces 10 text))
@@ -137,7 +137,7 @@ module _ (text : List ℕ) (ts : List TypeCell) (ms : List TermCell) (f : ReadFa
       ([], [], inl (none, refl, refl), fit, q ∙ ap (λ (g : ReadFault). left (Err g) ts ms) same)
   refused_by e (inr (rest, p, q)) =
       let m = later ts ms rest in
-      let out = reads rest 2 (place section.Types 0 0 false) ts ms in
+      let out = reads rest 2 (place section.Types 0 0) ts ms in
       let a = sym (ap (λ (o : Outcome). o.answer) q) ∙ e in
       let v = subst (λ r. Verdict r (2 + length m.ks + length m.os) (0 + length m.ks) (0 + length m.os) m.tail) a m.verdict in
       let lines = p ∙ ap (λ ls. header_line ∷ ls) m.lines_are ∙ regroup m.ks m.os m.tail in
@@ -176,19 +176,12 @@ read_back ks os ts ms f =
     let within : Within (length ks) (length os) ts ms = record { kinds = f.kinds_within; ops = f.ops_within } in
     ap (λ ls. reads ls 1 start ts ms) lines
     ∙ next_line header_line (map kind_line ks ++ (map op_line os ++ (ended ++ ([] ∷ [])))) 1 start ts ms (simp (length-append) (omega arith))
-    ∙ kinds_back ks os 2 0 false ts ms (length ks) (length os) (omega arith) refl f.kinds_known f.ops_known within
+    ∙ kinds_back ks os 2 0 ts ms (length ks) (length os) (omega arith) refl f.kinds_known f.ops_known within
     ∙ ap (λ xs. left (Ok (length ks, length os)) xs (puts 0 os ms)) (puts_front ks ts f.kinds_within.1)
     ∙ ap (λ xs. left (Ok (length ks, length os)) (fronted ks ts) xs) (puts_front os ms f.ops_within.1)
 
--- what a read leaves, from its parts
-pub from_parts : (text : List ℕ) (ts : List TypeCell) (ms : List TermCell) (r : Result (ℕ × ℕ) ReadFault) (us : List TypeCell) (ns : List TermCell)
-    → r ≡ (reading text ts ms).answer → us ≡ (reading text ts ms).types → ns ≡ (reading text ts ms).terms → left r us ns ≡ reading text ts ms
-from_parts text ts ms r us ns a u n =
-    let o = reading text ts ms in
-    ap (λ x. left x us ns) a ∙ ap (λ xs. left o.answer xs ns) u ∙ ap (λ xs. left o.answer o.types xs) n
-
 -- what a read has done, by cases on its answer
-pub done : (text : List ℕ) (ts : List TypeCell) (ms : List TermCell) (r : Result (ℕ × ℕ) ReadFault) (us : List TypeCell) (ns : List TermCell)
+done : (text : List ℕ) (ts : List TypeCell) (ms : List TermCell) (r : Result (ℕ × ℕ) ReadFault) (us : List TypeCell) (ns : List TermCell)
     → left r us ns ≡ reading text ts ms → Done text ts ms r us ns
 done text ts ms (Ok n) us ns e =
     let (ks, os, is, fit, all) = accepted text ts ms n (sym (ap (λ (o : Outcome). o.answer) e)) in
@@ -202,7 +195,7 @@ done text ts ms (Err f) us ns e =
       (ks, os, lines, ap (λ (o : Outcome). o.types) same, ap (λ (o : Outcome). o.terms) same),
     )
 
-pub bounded : (text : List ℕ) (ts : List TypeCell) (ms : List TermCell) (r : Result (ℕ × ℕ) ReadFault) (us : List TypeCell) (ns : List TermCell)
+bounded : (text : List ℕ) (ts : List TypeCell) (ms : List TermCell) (r : Result (ℕ × ℕ) ReadFault) (us : List TypeCell) (ns : List TermCell)
     → left r us ns ≡ reading text ts ms → Bounded r ts ms
 bounded text ts ms (Ok n) us ns e =
     let (ks, os, is, fit, counted, u, v) = done text ts ms (Ok n) us ns e in
@@ -210,6 +203,20 @@ bounded text ts ms (Ok n) us ns e =
     let o = ap (λ (m : ℕ × ℕ). m.1) counted in
     omega (arith, k, o, fit.kinds_within, fit.ops_within)
 bounded text ts ms (Err f) us ns e = tt
+
+-- what `read` ensures, from what it leaves and what then stands in the tables
+pub ensured : (text : List ℕ) (ts : List TypeCell) (ms : List TermCell) {r : Result (ℕ × ℕ) ReadFault} {us vs : List TypeCell} {ns os : List TermCell}
+    → left r us ns ≡ reading text ts ms → vs ≡ us → os ≡ ns
+    → record { answer : r ≡ (reading text ts ms).answer; types : vs ≡ (reading text ts ms).types; terms : os ≡ (reading text ts ms).terms; stored : Done text ts ms r vs os; within : Bounded r ts ms }
+ensured text ts ms {r} {us} {vs} {ns} {os} e u n =
+    let f = ap (λ xs. left r xs os) u ∙ ap (left r us) n ∙ e in
+    record {
+      answer = ap (λ (o : Outcome). o.answer) f;
+      types = ap (λ (o : Outcome). o.types) f;
+      terms = ap (λ (o : Outcome). o.terms) f;
+      stored = done text ts ms r vs os f;
+      within = bounded text ts ms r vs os f;
+    }
 
 pub exact : Exact
 exact = record {

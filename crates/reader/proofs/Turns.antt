@@ -5,10 +5,9 @@ use Rattle.calculus.specs.declared.cells.TypeCell.{TypeCell}
 use Rattle.std.specs.Result.{IsErrAnd}
 use Rattle.reader.specs.declared.faults.ReadFault.{ReadFault}
 use Rattle.reader.specs.declared.faults.ReadReason.{ReadReason}
-use Rattle.reader.specs.Cells.{leaves}
 use Rattle.reader.specs.Lines.{said}
 use Rattle.reader.specs.Pieces.{pieces}
-use Rattle.reader.specs.Reading.{Place, Left, Outcome, left, fault, line_read, by_answer, after_line, closed, reads}
+use Rattle.reader.specs.Reading.{Place, Left, Outcome, left, line_read, by_answer, after_line, closed, reads}
 use Rattle.reader.proofs.Cuts.{some_piece}
 
 -- a line that others follow
@@ -27,27 +26,21 @@ module _ (rest line after : List ℕ) (due : ℕ) (p : Place) (ts : List TypeCel
   more = reads (pieces 10 after) (due + 1)
 
   -- a line's step, from its answer and what it leaves
-  module _ (r : Result (Unit {0}) ReadReason) (q : Place) (us : List TypeCell) (ns : List TermCell)
-      (a : leaves r q ≡ (line_read p (said line) ts ms).answer) (u : us ≡ (line_read p (said line) ts ms).types) (n : ns ≡ (line_read p (said line) ts ms).terms) where
-    stepped : by_answer due (leaves r q) us ns more ≡ reads (pieces 10 rest) due p ts ms
+  module _ (r : Result Place ReadReason) (us : List TypeCell) (ns : List TermCell)
+      (a : r ≡ (line_read p (said line) ts ms).answer) (u : us ≡ (line_read p (said line) ts ms).types) (n : ns ≡ (line_read p (said line) ts ms).terms) where
+    pub stepped : by_answer due r us ns more ≡ reads (pieces 10 rest) due p ts ms
     stepped =
         ap (λ x. by_answer due x us ns more) a ∙ ap (λ xs. by_answer due l.answer xs ns more) u ∙ ap (λ xs. by_answer due l.answer l.types xs more) n ∙ sym turn
       where
         l : Left (Result Place ReadReason)
         l = line_read p (said line) ts ms
 
-    pub goes_on : (x : Unit {0}) → r ≡ Ok x → reads (pieces 10 after) (due + 1) q us ns ≡ reads (pieces 10 rest) due p ts ms
-    goes_on x e = ap (λ s. by_answer due (leaves s q) us ns more) (sym e) ∙ stepped
-
-    pub stops : (e : ReadReason) → r ≡ Err e → left (fault e due) us ns ≡ reads (pieces 10 rest) due p ts ms
-    stops e f = ap (λ s. by_answer due (leaves s q) us ns more) (sym f) ∙ stepped
-
 pub ends : (rest : List ℕ) (due : ℕ) (p : Place) (ts : List TypeCell) (ms : List TermCell) → pieces 10 rest ≡ rest ∷ []
     → left (closed rest due p) ts ms ≡ reads (pieces 10 rest) due p ts ms
 ends rest due p ts ms e = ap (λ ls. reads ls due p ts ms) (sym e)
 
 -- a line's refusal, with the fault that it becomes
-pub refusal : (r : Result (Unit {0}) ReadReason) (s : Result (Unit {0}) ReadFault) (f : ReadFault) (due : ℕ) (P : ReadReason → ReadFault → Type 0)
+pub refusal : {X : Type 0} (r : Result X ReadReason) (s : Result X ReadFault) (f : ReadFault) (due : ℕ) (P : ReadReason → ReadFault → Type 0)
     → ((e : ReadReason) (g : ReadFault) → P e g → g ≡ record { reason = e; line = due })
     → MatchResult r (λ x. s ≡ Ok x) (λ e. IsErrAnd s (P e)) → s ≡ Err f → (e : ReadReason) × (r ≡ Err e) × (f ≡ record { reason = e; line = due })
 refusal (Ok x) s f due P is m e = absurd (cc (sym m ∙ e))

@@ -66,7 +66,7 @@ next_place most table at = cond (has_room most table at) (Ok (at + 1)) (Err Full
 abbrev pub with_cell : {T : Type 0} → ℕ → List T → ℕ → T → List T
 with_cell most table at cell = cond (has_room most table at) (slice_set table at cell) table
 
--- what an accepted step leaves, or why it is refused
-abbrev pub leaves : {X : Type 0} → Result (Unit {0}) ReadReason → X → Result X ReadReason
-leaves (Ok u) x = Ok x
-leaves (Err e) x = Err e
+-- the count after an accepted cell, or why it is refused
+abbrev pub count_after : Result (Unit {0}) ReadReason → ℕ → Result ℕ ReadReason
+count_after (Ok u) n = Ok n
+count_after (Err e) n = Err e

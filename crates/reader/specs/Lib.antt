@@ -3,7 +3,7 @@ pub mod Faults
 pub mod Lines
 pub mod Numbers
 pub mod Pieces
-pub mod Progress
+pub mod Places
 pub mod Reading
 pub mod Samples
 pub mod Stored

@@ -7,6 +7,7 @@ use Rattle.reader.specs.declared.lines.Record.{Record}
 use Rattle.reader.specs.declared.lines.Record.TheVariants.{Header, Kind, Term, Counts, Other}
 use Rattle.reader.specs.declared.sections.Section.{Section}
 use Rattle.reader.specs.declared.sections.Section.TheVariants as section
+use Rattle.reader.specs.Cells.{two_numbers}
 use Rattle.reader.specs.Pieces.{pieces}
 
 -- `QL`, byte 9, `1`
@@ -42,6 +43,11 @@ said_by (Term f g h) = term f.now g.now h.now
 said_by (Counts f g) = counts f.now g.now
 said_by Other = other
 
+-- the section past an end line, from its counts
+abbrev pub ended : Result (ℕ × ℕ) ReadReason → Result Section ReadReason
+ended (Err e) = Err e
+ended (Ok n) = Ok (section.End n.0 n.1)
+
 -- kinds come before ops, then the end line, and after it nothing
 abbrev pub section_after : Section → Said → Result Section ReadReason
 section_after section.Header header = Ok section.Types
@@ -52,11 +58,11 @@ section_after section.Header other = Err reason.Header
 section_after section.Types header = Err reason.Line
 section_after section.Types (kind f) = Ok section.Types
 section_after section.Types (term f g h) = Ok section.Terms
-section_after section.Types (counts f g) = Ok section.End
+section_after section.Types (counts f g) = ended (two_numbers f g)
 section_after section.Types other = Err reason.Line
 section_after section.Terms header = Err reason.Line
 section_after section.Terms (kind f) = Err reason.Line
 section_after section.Terms (term f g h) = Ok section.Terms
-section_after section.Terms (counts f g) = Ok section.End
+section_after section.Terms (counts f g) = ended (two_numbers f g)
 section_after section.Terms other = Err reason.Line
-section_after section.End s = Err reason.Line
+section_after (section.End k o) s = Err reason.Line

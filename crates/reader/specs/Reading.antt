@@ -1,5 +1,5 @@
 -- How a stored program is read: line by line, to an answer and both tables.
-use Rattle.std.specs.Prelude.{ℕ, ◌+◌, ◌-◌, Bool, false, cond, ◌&&◌, List, [], ◌∷◌, Ok, Err, Result, ◌==◌}
+use Rattle.std.specs.Prelude.{ℕ, ◌+◌, ◌-◌, Bool, cond, ◌&&◌, List, [], ◌∷◌, Ok, Err, Result, ◌==◌}
 use Rattle.calculus.specs.declared.cells.TermCell.{TermCell}
 use Rattle.calculus.specs.declared.cells.TypeCell.{TypeCell}
 use Rattle.reader.specs.declared.faults.ReadFault.{ReadFault}
@@ -7,7 +7,7 @@ use Rattle.reader.specs.declared.faults.ReadReason.{ReadReason}
 use Rattle.reader.specs.declared.faults.ReadReason.TheVariants as reason
 use Rattle.reader.specs.declared.sections.Section.{Section}
 use Rattle.reader.specs.declared.sections.Section.TheVariants as section
-use Rattle.reader.specs.Cells.{kind_cell, op_cell, two_numbers, next_place, with_cell}
+use Rattle.reader.specs.Cells.{kind_cell, op_cell, next_place, with_cell}
 use Rattle.reader.specs.Lines.{Said, header, kind, term, counts, other, said, section_after}
 use Rattle.reader.specs.Pieces.{pieces}
 
@@ -21,21 +21,20 @@ pub record Left (X : Type 0) : Type 0 where
 abbrev pub left : {X : Type 0} → X → List TypeCell → List TermCell → Left X
 left x ts ms = record { answer = x; types = ts; terms = ms }
 
--- where a read stands: its section, the cells so far, and whether the end line, once read, counts just these
+-- where a read stands: its section and the cells so far
 pub record Place : Type 0 where
   pub section : Section
   pub kinds : ℕ
   pub ops : ℕ
-  pub agrees : Bool
 
 -- a read begins in the header section, with no cell
 abbrev pub start : Place
-start = record { section = section.Header; kinds = 0; ops = 0; agrees = false }
+start = record { section = section.Header; kinds = 0; ops = 0 }
 
 -- the place, once a kind cell has its own
 abbrev pub to_kinds : Place → Result ℕ ReadReason → Result Place ReadReason
 to_kinds p (Err e) = Err e
-to_kinds p (Ok n) = Ok (record { section = p.section; kinds = n; ops = p.ops; agrees = p.agrees })
+to_kinds p (Ok n) = Ok (record { section = p.section; kinds = n; ops = p.ops })
 
 -- a kind line's cell goes to the place after the earlier ones, if there is room
 abbrev pub with_kind : Place → Result TypeCell ReadReason → List TypeCell → List TermCell → Left (Result Place ReadReason)
@@ -45,34 +44,25 @@ with_kind p (Ok c) ts ms = left (to_kinds p (next_place 256 ts p.kinds)) (with_c
 -- the place, once an op cell has its own
 abbrev pub to_ops : Place → Result ℕ ReadReason → Result Place ReadReason
 to_ops p (Err e) = Err e
-to_ops p (Ok n) = Ok (record { section = p.section; kinds = p.kinds; ops = n; agrees = p.agrees })
+to_ops p (Ok n) = Ok (record { section = p.section; kinds = p.kinds; ops = n })
 
 -- and so does an op line's
 abbrev pub with_op : Place → Result TermCell ReadReason → List TypeCell → List TermCell → Left (Result Place ReadReason)
 with_op p (Err e) ts ms = left (Err e) ts ms
 with_op p (Ok c) ts ms = left (to_ops p (next_place 512 ms p.ops)) ts (with_cell 512 ms p.ops c)
 
--- whether the counts of the end line are those of the cells
-abbrev pub agreeing : ℕ × ℕ → Place → Bool
-agreeing n p = n.0 == p.kinds && n.1 == p.ops
-
--- the place after an end line
-abbrev pub with_counts : Place → Result (ℕ × ℕ) ReadReason → Result Place ReadReason
-with_counts p (Err e) = Err e
-with_counts p (Ok n) = Ok (record { section = p.section; kinds = p.kinds; ops = p.ops; agrees = agreeing n p })
-
 -- a line that its section allows
 abbrev pub allowed_line : Place → Said → List TypeCell → List TermCell → Left (Result Place ReadReason)
 allowed_line p header ts ms = left (Ok p) ts ms
 allowed_line p (kind f) ts ms = with_kind p (kind_cell f) ts ms
 allowed_line p (term f g h) ts ms = with_op p (op_cell f g h) ts ms
-allowed_line p (counts f g) ts ms = left (with_counts p (two_numbers f g)) ts ms
+allowed_line p (counts f g) ts ms = left (Ok p) ts ms
 allowed_line p other ts ms = left (Ok p) ts ms
 
 -- a line in a section that allows it, or not
 abbrev pub line_in : Place → Result Section ReadReason → Said → List TypeCell → List TermCell → Left (Result Place ReadReason)
 line_in p (Err e) s ts ms = left (Err e) ts ms
-line_in p (Ok sec) s ts ms = allowed_line (record { section = sec; kinds = p.kinds; ops = p.ops; agrees = p.agrees }) s ts ms
+line_in p (Ok sec) s ts ms = allowed_line (record { section = sec; kinds = p.kinds; ops = p.ops }) s ts ms
 
 -- a line, ended by byte 10
 abbrev pub line_read : Place → Said → List TypeCell → List TermCell → Left (Result Place ReadReason)
@@ -82,17 +72,21 @@ line_read p s ts ms = line_in p (section_after p.section s) s ts ms
 abbrev pub fault : {X : Type 0} → ReadReason → ℕ → Result X ReadFault
 fault e line = Err (record { reason = e; line = line })
 
--- after the end line: nothing more, and the counts of the cells
-abbrev closed_by : List ℕ → ℕ → Place → Result (ℕ × ℕ) ReadFault
-closed_by [] due p = cond p.agrees (Ok (p.kinds, p.ops)) (fault reason.End (due - 1))
-closed_by (b ∷ bs) due p = fault reason.Line due
+-- whether these are the counts of the cells
+abbrev pub agreeing : ℕ → ℕ → Place → Bool
+agreeing k o p = k == p.kinds && o == p.ops
+
+-- after the end line: nothing more, and its counts are those of the cells
+abbrev closed_by : ℕ → ℕ → List ℕ → ℕ → Place → Result (ℕ × ℕ) ReadFault
+closed_by k o [] due p = cond (agreeing k o p) (Ok (p.kinds, p.ops)) (fault reason.End (due - 1))
+closed_by k o (b ∷ bs) due p = fault reason.Line due
 
 -- the same, by the section: only after the end line may the text end
 abbrev closed_in : Section → List ℕ → ℕ → Place → Result (ℕ × ℕ) ReadFault
 closed_in section.Header rest due p = fault reason.End due
 closed_in section.Types rest due p = fault reason.End due
 closed_in section.Terms rest due p = fault reason.End due
-closed_in section.End rest due p = closed_by rest due p
+closed_in (section.End k o) rest due p = closed_by k o rest due p
 
 -- the verdict on what stands after the last byte 10, where this line would be due
 abbrev pub closed : List ℕ → ℕ → Place → Result (ℕ × ℕ) ReadFault

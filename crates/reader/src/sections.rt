@@ -3,19 +3,21 @@
 ghost use Rattle.std.specs.Prelude.{◌≡◌};
 ghost use Rattle.reader.specs.Lines.{said_by, section_after};
 
+use crate::cells::numbers;
 use crate::faults::ReadReason;
 use crate::lines::Record;
 
 /// The part of the text that a line stands in.
-#[derive(Clone, Copy, PartialEq, Eq, Debug, Drop)]
+#[derive(Clone, Copy, Drop)]
 pub enum Section {
     Header,
     Types,
     Terms,
-    End,
+    /// After the end line, which counts so many kinds and ops.
+    End(u16, u16),
 }
 
-/// The section after a line, where the line is allowed.
+/// The section after a line, where the line is allowed and its counts are numbers.
 #[inline(always)]
 pub fn next_section(section: Section, line: Record) -> Result<Section, ReadReason>
     ensures { result ≡ section_after section (said_by line.entry) }
@@ -25,7 +27,10 @@ pub fn next_section(section: Section, line: Record) -> Result<Section, ReadReaso
         (Section::Header, _) => Err(ReadReason::Header),
         (Section::Types, Record::Kind(_)) => Ok(Section::Types),
         (Section::Types | Section::Terms, Record::Term(_, _, _)) => Ok(Section::Terms),
-        (Section::Types | Section::Terms, Record::Counts(_, _)) => Ok(Section::End),
+        (Section::Types | Section::Terms, Record::Counts(kinds, ops)) => {
+            let (kinds, ops) = numbers(kinds, ops)?;
+            Ok(Section::End(kinds, ops))
+        }
         _ => Err(ReadReason::Line),
     }
 }
