@@ -9,10 +9,10 @@ use Rattle.subtyping.specs.Parting.{core_meant, Apart}
 use Rattle.subtyping.specs.declared.parting.Core.{Core}
 use Rattle.subtyping.specs.declared.parting.Core.TheVariants.{Bit, Qubit, Unit as Empty, Arrow, Pair}
 use Rattle.subtyping.specs.declared.placed.TypeAt.{TypeAt}
-use Rattle.subtyping.proofs.Components.{core_is, first_bangs}
-use Rattle.subtyping.proofs.Places.{marks_bangs}
+use Rattle.subtyping.proofs.Components.{core_is}
+use Rattle.calculus.proofs.Subtyping.{first_bangs, marks_bangs}
 use Rattle.subtyping.proofs.Related.{is_false, same_arrows}
-use Rattle.verdict.specs.Claims.{application_fits, function_fits, unit_fits}
+use Rattle.verdict.specs.Claims.{function_fits, unit_fits}
 
 not_arrow : (d : Core) → ((a b : TypeAt) → d ≡ Arrow a b → ⊥) → (u v : Ty) → core_meant d ≡ arrow u v → ⊥
 not_arrow Bit n u v e = cc
@@ -38,9 +38,6 @@ module _ (a : TypeAt) (x : ℕ × Core) (h : Apart a x) where
   pub function_none : ((u v : TypeAt) → x.1 ≡ Arrow u v → ⊥) → (b : Ty) → false ≡ function_fits (meant a) b
   function_none n b = sym (is_false _ (λ t. not_arrow x.1 n _ _ (sym (core_is a x h) ∙ (same_exact (core (meant a)) (arrow (first (meant a)) b)).0 t)))
 
-  pub application_none : ((u v : TypeAt) → x.1 ≡ Arrow u v → ⊥) → (c b : Ty) → false ≡ application_fits c (meant a) b
-  application_none n c b = sym (is_false _ (λ t. not_arrow x.1 n _ _ (sym (core_is a x h) ∙ ap core ((same_exact (meant a) (arrow b c)).0 t))))
-
   module _ (u v : TypeAt) (e : x.1 ≡ Arrow u v) where
     pub arrow_is : meant a ≡ bangs x.0 (arrow (meant u) (meant v))
     arrow_is = h.is ∙ ap (λ d. bangs x.0 (core_meant d)) e
@@ -51,8 +48,8 @@ module _ (a : TypeAt) (x : ℕ × Core) (h : Apart a x) where
     pub arrow_marks : x.0 ≡ marks (meant a)
     arrow_marks = sym (ap marks arrow_is ∙ marks_bangs x.0 _ ∙ add-zero x.0)
 
-    pub function_by : (b : Ty) → same (meant v) b ≡ function_fits (meant a) b
+    pub function_by : (b : Ty) → function_fits (meant a) b ≡ same (meant v) b
     function_by b =
-        sym (ap₂ (λ s t. same s (arrow t b)) (core_is a x h ∙ ap core_meant e) arrow_first
+        ap₂ (λ s t. same s (arrow t b)) (core_is a x h ∙ ap core_meant e) arrow_first
         ∙ same_arrows (meant u) (meant v) (meant u) b
-        ∙ ap (λ z. z && same (meant v) b) (T_true _ (same_refl (meant u))))
+        ∙ ap (λ z. z && same (meant v) b) (T_true _ (same_refl (meant u)))

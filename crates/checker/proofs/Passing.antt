@@ -2,7 +2,7 @@
 use Rattle.std.proofs.Common.{◌≡◌, ℕ, ◌+◌, ◌≤◌, not, T, eqb, leb, List, [], ◌∷◌, length, Some, None, Option, sym, refl, ap, ◌∙◌, subst, arith, leb→le}
 use Rattle.std.proofs.lemmas.Bool.{le-leb, and_from}
 use Rattle.std.proofs.lemmas.List.{append-nil}
-use Rattle.trees.specs.Failing.{first_failing}
+use Rattle.trees.specs.Failing.{first_failing, none_at}
 use Rattle.trees.specs.Reach.{ends, not_one_tree}
 use Rattle.trees.specs.Whole.{height, whole}
 use Rattle.trees.proofs.One.{one_whole, ends_one}
@@ -18,7 +18,7 @@ use Rattle.calculus.proofs.Reading.{T_true, both}
 use Rattle.calculus.proofs.ReadTerms.{cells_counted}
 use Rattle.checker.specs.Tested.{Tested}
 use Rattle.checker.specs.Tables.{known_kind, storable, claim_in, tables_tested}
-use Rattle.verdict.specs.Faults.{Verdict, accepted, none_at, fault}
+use Rattle.verdict.specs.Faults.{Verdict, accepted, fault}
 use Rattle.verdict.specs.declared.faults.CheckFault.{CheckFault}
 use Rattle.verdict.specs.declared.faults.CheckReason.TheVariants.{TooManyCells, BadCell, NotWhole, ClaimOutside}
 use Rattle.verdict.proofs.Accepting.{not_refused, must_accepted}

@@ -1,13 +1,13 @@
 -- The tests of whole tables, types before terms, each with the first cell at fault.
 use Rattle.std.specs.Prelude.{ℕ, Bool, not, ◌&&◌, List, length, Ok, ◌==◌, nat_le, nat_lt}
-use Rattle.trees.specs.Failing.{first_failing}
+use Rattle.trees.specs.Failing.{first_failing, none_at}
 use Rattle.trees.specs.Reach.{not_one_tree}
 use Rattle.trees.specs.Whole.{whole}
 use Rattle.calculus.specs.Letters.{allowed, arity, kind_arity}
 pub use Rattle.calculus.specs.Letters.{known_kind}
 use Rattle.calculus.specs.declared.cells.TypeCell.{TypeCell}
 use Rattle.calculus.specs.declared.cells.TermCell.{TermCell}
-use Rattle.verdict.specs.Faults.{Verdict, fault, must, none_at}
+use Rattle.verdict.specs.Faults.{Verdict, fault, must}
 use Rattle.verdict.specs.declared.faults.CheckReason.TheVariants.{TooManyCells, BadCell, NotWhole, ClaimOutside}
 
 -- a cell that may stand in a program: q, the name of a qubit, may not

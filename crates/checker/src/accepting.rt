@@ -1,4 +1,4 @@
-//! The check of a whole program, and programs that passed it.
+//! The check of a whole program, programs that passed it, and what holds of both.
 
 ghost use Rattle.std.specs.Prelude.{◌≡◌, true, IfOk};
 ghost use Rattle.checker.specs.Accepting.{CheckingIsExact, accepts, program_verdict};

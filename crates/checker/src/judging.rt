@@ -38,8 +38,8 @@ fn judge_under<'a>(
     ensures kept { scope.new ≡ scope.old }
 {
     let before = scope.binders.len();
+    scope.binders.try_extend_from_slice(binders).unwrap();
     let entered = Entered { scope, before };
-    let _ = entered.scope.binders.try_extend_from_slice(binders);
     judge(node, &mut *entered.scope)
 }
 

@@ -66,20 +66,14 @@ fn own_type(op: char, argument: u16) -> Option<TypeAt<'static>>
 fn constant_fits(claim: TypeAt<'_>, op: char, argument: u16) -> bool
     ensures { result ≡ own_fits (constant_of (letter op) argument) (meant claim.entry) }
 {
-    match own_type(op, argument) {
-        Some(own) => own.is_subtype(claim),
-        None => false,
-    }
+    matches!(own_type(op, argument), Some(own) if own.is_subtype(claim))
 }
 
 // Whether the type of the variable's binder, counted outward, is a subtype of the claim.
 fn variable_fits(claim: TypeAt<'_>, above: usize, scope: &Scope<'_>) -> bool
     ensures { result ≡ variable_fits (slice_get (in_scope scope.now) above) (meant claim.entry) }
 {
-    match scope.binders.iter().rev().nth(above) {
-        Some(binder) => binder.is_subtype(claim),
-        None => false,
-    }
+    matches!(scope.binders.iter().rev().nth(above), Some(binder) if binder.is_subtype(claim))
 }
 
 // Whether the claim is the unit type after any marks.
@@ -93,31 +87,27 @@ fn unit_fits(claim: TypeAt<'_>) -> bool
 fn function_fits(claim: TypeAt<'_>, body: TypeAt<'_>) -> bool
     ensures { result ≡ function_fits (meant claim.entry) (meant body.entry) }
 {
-    match claim.take_apart().1 {
-        Core::Arrow(_, to) => to.is_same(body),
-        _ => false,
-    }
+    matches!(claim.take_apart().1, Core::Arrow(_, to) if to.is_same(body))
 }
 
 // Whether the function claims exactly the arrow from the argument's claim to the claim.
 fn application_fits(claim: TypeAt<'_>, function: TypeAt<'_>, argument: TypeAt<'_>) -> bool
     ensures { result ≡ application_fits (meant claim.entry) (meant function.entry) (meant argument.entry) }
 {
-    let (marks, core) = function.take_apart();
-    match core {
-        Core::Arrow(from, to) => marks == 0 && argument.is_same(from) && to.is_same(claim),
-        _ => false,
-    }
+    matches!(
+        function.take_apart(),
+        (0, Core::Arrow(from, to)) if argument.is_same(from) && to.is_same(claim)
+    )
 }
 
 // Whether the claim is a pair after any marks, and the parts claim its parts, each after the same marks.
 fn pair_fits(claim: TypeAt<'_>, left: TypeAt<'_>, right: TypeAt<'_>) -> bool
     ensures { result ≡ pair_fits (meant claim.entry) (meant left.entry) (meant right.entry) }
 {
-    match claim.components() {
-        Some((first, second)) => left.is_same(first) && right.is_same(second),
-        None => false,
-    }
+    matches!(
+        claim.components(),
+        Some((first, second)) if left.is_same(first) && right.is_same(second)
+    )
 }
 
 // Whether the condition claims exactly a bit, and both branches what the cell claims.

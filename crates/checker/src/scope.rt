@@ -1,6 +1,6 @@
-//! The record of binders in scope, and the guard that leaves them.
+//! The record of binders in scope, the tests of its depth and of what is duplicable in it, and the guard that leaves binders.
 
-ghost use Rattle.std.specs.Prelude.{◌≡◌, ◌≤◌, [], length, take};
+ghost use Rattle.std.specs.Prelude.{◌≡◌, ◌≤◌, [], take};
 ghost use Rattle.calculus.specs.Stripping.{duplicable};
 ghost use Rattle.checker.specs.Scoping.{binders_of, depth, depth_tested, in_scope, used_below};
 ghost use Rattle.subtyping.specs.Meaning.{meant};

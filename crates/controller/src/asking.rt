@@ -13,7 +13,7 @@ use finder::Rule;
 use registers::{Register, RegisterFault};
 use stepper::Answer;
 
-/// A redex: the cells of a running term from its first one on.
+/// A redex, by the cells of the running term from the redex's first one on.
 #[derive(Drop)]
 pub struct Redex<'a> {
     pub(crate) cells: &'a [TermCell],

@@ -36,17 +36,12 @@ impl Shot {
             (λ _. (value.new ≡ begun_with (held self.old).cells value.old) × (kinds.new ≡ begun_with (held self.old).kinds kinds.old))
             (λ _. (value.new ≡ value.old) × (kinds.new ≡ kinds.old)) }
     {
-        ControllerFault::NothingLoaded
-            .refuse_if(self.cells.is_empty())
-            .map_err(|fault| fault.at(self.steps))?;
-        ControllerFault::NoValue
-            .refuse_if(!is_value(&find(&self.cells)))
-            .map_err(|fault| fault.at(self.steps))?;
+        self.refuse_if(ControllerFault::NothingLoaded, self.cells.is_empty())?;
+        self.refuse_if(ControllerFault::NoValue, !is_value(&find(&self.cells)))?;
         let len = self.cells.len();
         let kind_len = self.kinds.len();
-        ControllerFault::ShortTables
-            .refuse_if(value.len() < len || kinds.len() < kind_len)
-            .map_err(|fault| fault.at(self.steps))?;
+        let is_short = value.len() < len || kinds.len() < kind_len;
+        self.refuse_if(ControllerFault::ShortTables, is_short)?;
         value[..len].copy_from_slice(&self.cells);
         kinds[..kind_len].copy_from_slice(&self.kinds);
         self.end(register);
@@ -60,9 +55,7 @@ impl Shot {
             (λ _. Ends R.Register self.new register.old register.new)
             (λ _. (self.new ≡ self.old) × (register.new ≡ register.old)) }
     {
-        ControllerFault::NothingLoaded
-            .refuse_if(self.cells.is_empty())
-            .map_err(|fault| fault.at(self.steps))?;
+        self.refuse_if(ControllerFault::NothingLoaded, self.cells.is_empty())?;
         self.end(register);
         Ok(())
     }

@@ -58,9 +58,7 @@ impl Shot {
         ensures answer { result ≡ load_answer (R.Register.meaning register.now).makes (held self.old) program.now.terms.now }
         ensures state { MatchResult result (λ _. held self.new ≡ program_held program.now.types.now program.now.terms.now) (λ _. self.new ≡ self.old) }
     {
-        ControllerFault::AlreadyLoaded
-            .refuse_if(!self.cells.is_empty())
-            .map_err(|fault| fault.at(self.steps))?;
+        self.refuse_if(ControllerFault::AlreadyLoaded, !self.cells.is_empty())?;
         let terms = program.terms();
         if let Some(cell) = first_unmade(register, terms) {
             return Err(ControllerFault::GateNotMade.at(cell as u64));

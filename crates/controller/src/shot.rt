@@ -1,7 +1,10 @@
-//! What runs: a term in cells, its loaded type, and the steps made. Its calls take the register as an argument.
+//! What runs: a term in cells, its loaded type, and the steps made. Its calls, in `loading`, `steps` and `ending`, take the register as an argument.
 
-ghost use Rattle.std.specs.Prelude.{◌≡◌, ◌≤◌, length};
+ghost use Rattle.std.specs.Prelude.{◌≡◌, ◌≤◌, length, if◌then◌else◌, Ok};
+ghost use Rattle.controller.specs.Faults.{refused};
+ghost use Rattle.controller.specs.Shots.{held};
 
+use crate::faults::{ControllerFault, Refusal};
 use arrayvec::ArrayVec;
 use calculus::{MOST_RUNNING_CELLS, MOST_TYPE_CELLS, TermCell, TypeCell};
 
@@ -21,5 +24,14 @@ pub fn refill<T: Copy + Default, const N: usize>(table: &mut ArrayVec<T, N>, cel
     table.truncate(cells.len());
     let (first, rest) = cells.split_at(table.len());
     table.copy_from_slice(first);
-    let _ = table.try_extend_from_slice(rest);
+    table.try_extend_from_slice(rest).unwrap();
+}
+
+impl Shot {
+    // Refuses a call with the fault where the test holds, at the steps made.
+    pub(crate) fn refuse_if(&self, fault: ControllerFault, test: bool) -> Result<(), Refusal>
+        ensures { result ≡ (if test then refused fault (held self.now).steps else Ok tt) }
+    {
+        fault.refuse_if(test).map_err(|fault| fault.at(self.steps))
+    }
 }

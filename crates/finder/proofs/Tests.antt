@@ -1,7 +1,7 @@
 -- The tests pass exactly the cells of a running term.
 use Rattle.std.proofs.Common.{◌≡◌, ℕ, ◌<◌, ◌≤◌, Bool, true, false, cond, ltb, List, [], ◌∷◌, length, Some, None, Ok, Err, Option, refl, arith}
 use Rattle.std.proofs.lemmas.Bool.{ltb-false}
-use Rattle.trees.specs.Failing.{first_failing}
+use Rattle.trees.specs.Failing.{first_failing, none_at}
 use Rattle.trees.specs.Reach.{not_one_tree}
 use Rattle.trees.specs.Whole.{height}
 use Rattle.trees.proofs.One.{one_whole}
@@ -9,7 +9,7 @@ use Rattle.calculus.specs.declared.cells.TermCell.{TermCell}
 use Rattle.calculus.specs.Letters.{allowed, arity}
 use Rattle.calculus.specs.Reading.{TermsStand}
 use Rattle.calculus.proofs.Failing.{all_pass}
-use Rattle.finder.specs.Faults.{fault, none_at}
+use Rattle.finder.specs.Faults.{fault}
 use Rattle.finder.specs.Finding.{tested}
 use Rattle.finder.specs.declared.faults.FindReason.TheVariants.{TooManyCells, BadCell, NotWhole}
 

@@ -1,5 +1,5 @@
--- The faults of the finder with their numbers, and the tests of cells in a row.
-use Rattle.std.specs.Prelude.{ℕ, Some, None, Err, Option, Result}
+-- The faults of the finder with their numbers.
+use Rattle.std.specs.Prelude.{ℕ}
 use Rattle.finder.specs.declared.faults.FindReason.{FindReason}
 use Rattle.finder.specs.declared.faults.FindReason.TheVariants.{TooManyCells, BadCell, NotWhole, NoRule}
 use Rattle.finder.specs.declared.faults.FindFault.{FindFault}
@@ -13,8 +13,3 @@ number_of NoRule = 36
 -- the fault for a reason at a cell
 abbrev pub fault : FindReason → ℕ → FindFault
 fault r k = record { reason = r; cell = k }
-
--- the fault at the cell that was found, or the next test where none was
-abbrev pub none_at : (ℕ → FindFault) → Option ℕ → Result (Unit {0}) FindFault → Result (Unit {0}) FindFault
-none_at f None r = r
-none_at f (Some k) r = Err (f k)

@@ -1,12 +1,12 @@
 -- The finder's answer: the tests of cells that may be a running term, and then what the term that they are waits for.
 use Rattle.std.specs.Prelude.{ℕ, cond, List, length, Some, None, Ok, Err, Option, Result, nat_lt}
-use Rattle.trees.specs.Failing.{first_failing}
+use Rattle.trees.specs.Failing.{first_failing, none_at}
 use Rattle.trees.specs.Reach.{not_one_tree}
 use Rattle.calculus.specs.Letters.{allowed, arity}
 use Rattle.calculus.specs.Terms.{erased}
 use Rattle.calculus.specs.Reading.{term_at}
 use Rattle.calculus.specs.declared.cells.TermCell.{TermCell}
-use Rattle.finder.specs.Faults.{fault, none_at}
+use Rattle.finder.specs.Faults.{fault}
 use Rattle.finder.specs.Search.{Found, found}
 use Rattle.finder.specs.declared.rules.Rule.{Rule}
 use Rattle.finder.specs.declared.faults.FindFault.{FindFault}

@@ -1,7 +1,8 @@
 //! Why no rule is found, and at which cell.
 
 ghost use Rattle.std.specs.Prelude.{◌≡◌, Ok};
-ghost use Rattle.finder.specs.Faults.{fault, none_at, number_of};
+ghost use Rattle.trees.specs.Failing.{none_at};
+ghost use Rattle.finder.specs.Faults.{fault, number_of};
 
 /// Why no rule is found, each reason with its number.
 #[derive(Clone, Copy, PartialEq, Eq, Debug, Drop)]

@@ -1,7 +1,6 @@
 //! Finds the rule that applies to a running term, and the cell it applies at.
 
-ghost use Rattle.std.specs.Prelude.{◌≡◌, ◌+◌, ◌<◌, ◌≤◌, length, drop, slice_index_or};
-ghost use Rattle.calculus.specs.Cells.{blank};
+ghost use Rattle.std.specs.Prelude.{◌≡◌, ◌+◌, ◌<◌, ◌≤◌, length, drop};
 ghost use Rattle.calculus.specs.Letters.{arity};
 ghost use Rattle.calculus.specs.Reading.{term_at, TermsStand};
 ghost use Rattle.calculus.specs.Terms.{size, erased};
@@ -15,47 +14,37 @@ use crate::rules::Rule;
 use calculus::{Gate, MOST_RUNNING_CELLS, TermCell, is_allowed};
 use trees::{first_failing, not_one_tree, reach};
 
-// Whether the ops from `at` on begin with the letters of a word.
-fn spells(cells: &[TermCell], at: usize, word: &[char]) -> bool
-    ensures { result ≡ spelt word.now (drop at cells.now) }
+// Whether the ops of the cells begin with the letters of a word.
+fn spells(cells: &[TermCell], word: &[char]) -> bool
+    ensures { result ≡ spelt word.now cells.now }
 {
-    let rest = cells.get(at..).unwrap_or_default();
-    word.len() <= rest.len()
-        && rest
+    word.len() <= cells.len()
+        && cells
             .iter()
             .zip(word)
             .all(|(cell, letter)| cell.op == *letter)
 }
 
-// Whether the tree at `at` is as many qubits as the gate of a number takes.
-fn are_operands(cells: &[TermCell], gate: u16, at: usize) -> bool
-    ensures { result ≡ spelt (operand_word gate) (drop at cells.now) }
+// Whether the cells begin with as many qubits as the gate of a number takes.
+fn are_operands(cells: &[TermCell], gate: u16) -> bool
+    ensures { result ≡ spelt (operand_word gate) cells.now }
 {
     match Gate::try_from(gate) {
-        Ok(Gate::Cnot | Gate::Swap) => spells(cells, at, &['p', 'q', 'q']),
-        Ok(Gate::Toffoli) => spells(cells, at, &['p', 'q', 'p', 'q', 'q']),
-        _ => spells(cells, at, &['q']),
+        Ok(Gate::Cnot | Gate::Swap) => spells(cells, &['p', 'q', 'q']),
+        Ok(Gate::Toffoli) => spells(cells, &['p', 'q', 'p', 'q', 'q']),
+        _ => spells(cells, &['q']),
     }
 }
 
-// The cell at `at`, or a blank one past the end.
-fn cell_at(cells: &[TermCell], at: usize) -> TermCell
-    ensures { result ≡ slice_index_or cells.now at blank }
-{
-    cells.get(at).copied().unwrap_or_default()
-}
-
-// The rule for a value, by its first cell, applied to the value at `argument`.
-fn applied(function: TermCell, cells: &[TermCell], argument: usize) -> Option<Rule>
-    ensures { result ≡ applied_of function.op function.argument (drop argument cells.now) }
+// The rule for a value, by its first cell, applied to the value that the other cells begin with.
+fn applied(function: TermCell, argument: &[TermCell]) -> Option<Rule>
+    ensures { result ≡ applied_of function.op function.argument argument.now }
 {
     match function.op {
         'l' => Some(Rule::Function),
-        'n' => (spells(cells, argument, &['0']) || spells(cells, argument, &['1'])).then_some(
-            Rule::Prepare,
-        ),
-        'm' => spells(cells, argument, &['q']).then_some(Rule::Read),
-        'g' => are_operands(cells, function.argument, argument).then_some(Rule::Gates),
+        'n' => (spells(argument, &['0']) || spells(argument, &['1'])).then_some(Rule::Prepare),
+        'm' => spells(argument, &['q']).then_some(Rule::Read),
+        'g' => are_operands(argument, function.argument).then_some(Rule::Gates),
         _ => None,
     }
 }
@@ -92,15 +81,16 @@ fn work(cells: &[TermCell], at: usize) -> (usize, Option<(usize, Option<Rule>)>)
     requires { TermsStand cells.now × (at < length cells.now) }
     ensures { result ≡ (at + size (term_at cells.now at), found at (erased (term_at cells.now at))) }
 {
-    let part = cell_at(cells, at + 1);
+    let part = cells.get(at + 1).copied().unwrap_or_default();
     match cells[at].op {
         'l' => (past(cells, at), None),
         'a' => {
             let (middle, function) = work(cells, at + 1);
             let (end, argument) = work(cells, middle);
+            let value = cells.get(middle..).unwrap_or_default();
             let due = argument
                 .or(function)
-                .or_else(|| Some((at, applied(part, cells, middle))));
+                .or_else(|| Some((at, applied(part, value))));
             (end, due)
         }
         'p' => {

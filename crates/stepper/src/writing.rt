@@ -11,7 +11,7 @@ use finder::Rule;
 use trees::reach;
 
 /// What the register answered to the step, if it was asked for something.
-#[derive(Clone, Copy, Drop)]
+#[derive(Clone, Copy, PartialEq, Eq, Debug, Drop)]
 pub enum Answer {
     /// The rule asks nothing, or a gate, which answers nothing.
     Nothing,

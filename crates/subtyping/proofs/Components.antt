@@ -1,25 +1,17 @@
 -- The components of a pair, by what its type is taken apart into.
-use Rattle.std.proofs.Common.{◌≡◌, ℕ, zero, suc, ◌+◌, true, false, sym, refl, ap, ap₂, ◌∙◌, subst, add-zero, arith}
+use Rattle.std.proofs.Common.{◌≡◌, ℕ, ◌+◌, true, false, sym, refl, ap, ap₂, ◌∙◌, subst, add-zero, arith}
 use Rattle.calculus.specs.Stripping.{same, marks, core, first, second, is_tensor}
 use Rattle.calculus.specs.Types.{Ty, tensor, bangs}
 use Rattle.calculus.proofs.Reading.{T_true}
 use Rattle.calculus.proofs.Stripping.{same_exact, same_refl}
+use Rattle.calculus.proofs.Subtyping.{core_bangs, first_bangs, second_bangs, marks_bangs}
 use Rattle.subtyping.specs.Meaning.{meant, standing}
 use Rattle.subtyping.specs.Parting.{core_meant, Apart, Components, PartsAt, PartsStand}
 use Rattle.subtyping.specs.Placing.{type_end}
 use Rattle.subtyping.specs.declared.parting.Core.{Core}
 use Rattle.subtyping.specs.declared.parting.Core.TheVariants.{Bit, Qubit, Unit as Empty, Arrow, Pair}
 use Rattle.subtyping.specs.declared.placed.TypeAt.{TypeAt}
-use Rattle.subtyping.proofs.Places.{core_bangs, marks_bangs}
 use Rattle.subtyping.proofs.Related.{is_false}
-
-pub first_bangs : (n : ℕ) (a : Ty) → first (bangs n a) ≡ first a
-first_bangs zero a = refl
-first_bangs (suc n) a = first_bangs n a
-
-second_bangs : (n : ℕ) (a : Ty) → second (bangs n a) ≡ second a
-second_bangs zero a = refl
-second_bangs (suc n) a = second_bangs n a
 
 core_once : (d : Core) → core (core_meant d) ≡ core_meant d
 core_once Bit = refl

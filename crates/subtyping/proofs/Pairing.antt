@@ -50,6 +50,12 @@ module _ (r : Asked) (cs ds : List TypeCell) (i j : ℕ) (a b : TypeAt) (h : Bar
   pub related_none : None ≡ related_at r a b → related r (type_at cs i) (type_at ds j) ≡ false
   related_none e = refused _ (type_end cs i, type_end ds j) (e ∙ at_bare)
 
+-- The first parts of two types at their letters end at these places, where the second ones stand, and the answer is that of the second ones.
+pub record Ends (r : Asked) (a b u v : TypeAt) (p q : ℕ) : Type 0 where
+  pub are : (p ≡ type_end u.types.now (u.place + 1)) × (q ≡ type_end v.types.now (v.place + 1))
+  pub inside : (p < length u.types.now) × (q < length v.types.now)
+  pub answer : (x y : TypeAt) → Bare u.types.now p x → Bare v.types.now q y → related_at r x y ≡ related_at r a b
+
 stop : {A : Type 0} (v : Bool) (w z : Option A) → z ≡ cond v w None → v ≡ false → None ≡ z
 stop true w z e f = absurd (both_ways true f refl)
 stop false w z e f = sym e
@@ -93,15 +99,12 @@ module _ (r : Asked) (a b : TypeAt) (u v : ℕ × TypeAt) (ha : Stripped a u) (h
           let f : past b ≡ v.1.place + 1 = sym sb.ends ∙ ap (λ t. v.1.place + length (type_cells t)) sb.bare ∙ ap (λ n. v.1.place + n) l.2 in
           sym (simp (with_marks ∙ l.0, e, f))
 
-      -- The parts of both types stand in their tables, and the answer is that of the parts, where the test is what is asked of the first ones.
+      -- The first parts of both types stand in their tables, and the answer is no unless they are as asked, which the test says.
       pub record Halves (test : Bool) : Type 0 where
         pub left_first : u.1.place + 1 < length u.1.types.now
         pub right_first : v.1.place + 1 < length v.1.types.now
-        pub left_second : type_end u.1.types.now (u.1.place + 1) < length u.1.types.now
-        pub right_second : type_end v.1.types.now (v.1.place + 1) < length v.1.types.now
         pub none : test ≡ false → None ≡ related_at r a b
-        pub both : (p q : ℕ) (x y : TypeAt) → Bare u.1.types.now p x → Bare v.1.types.now q y → p ≡ type_end u.1.types.now (u.1.place + 1) → q ≡ type_end v.1.types.now (v.1.place + 1) → test ≡ true
-            → related_at r x y ≡ related_at r a b
+        pub ends : (p q : ℕ) → p ≡ type_end u.1.types.now (u.1.place + 1) → q ≡ type_end v.1.types.now (v.1.place + 1) → test ≡ true → Ends r a b u.1 v.1 p q
 
       halves : (join : Ty → Ty → Ty) (test : Bool) → Joins u.1.types.now u.1.place join → Joins v.1.types.now v.1.place join
           → ((t w : Ty) → related r (join (type_at u.1.types.now (u.1.place + 1)) t) (join (type_at v.1.types.now (v.1.place + 1)) w) ≡ test && related r t w) → Halves test
@@ -115,10 +118,12 @@ module _ (r : Asked) (a b : TypeAt) (u v : ℕ × TypeAt) (ha : Stripped a u) (h
           record {
             left_first = p.inside_first;
             right_first = q.inside_first;
-            left_second = p.inside_second;
-            right_second = q.inside_second;
             none = stop test _ _ answer;
-            both = λ n o x y bx by en eo t. at_bare r _ _ n o x y bx by ∙ ap₂ (λ i j. at_places r u.1.types.now i v.1.types.now j) en eo ∙ go test _ _ answer t;
+            ends = λ n o en eo t. record {
+              are = (en, eo);
+              inside = (rw en p.inside_second, rw eo q.inside_second);
+              answer = λ x y bx by. at_bare r _ _ n o x y bx by ∙ ap₂ (λ i j. at_places r u.1.types.now i v.1.types.now j) en eo ∙ go test _ _ answer t;
+            };
           }
 
       -- both types are arrows or both are pairs, since both begin with the letter

@@ -4,7 +4,7 @@ use Rattle.std.proofs.lemmas.Bool.{ne_eqb}
 use Rattle.calculus.specs.Reading.{type_at}
 use Rattle.calculus.specs.Stripping.{marks}
 use Rattle.calculus.specs.Types.{Ty, arrow, tensor, bangs}
-use Rattle.calculus.proofs.Stripping.{under_marks}
+use Rattle.calculus.proofs.Subtyping.{under_marks}
 use Rattle.subtyping.specs.Letters.{kind_of}
 use Rattle.subtyping.specs.Meaning.{meant, Stripped}
 use Rattle.subtyping.specs.Parting.{core_meant, PartsAt, Apart, PartsStand}

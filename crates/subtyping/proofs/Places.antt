@@ -9,6 +9,7 @@ use Rattle.calculus.specs.Stripping.{marks, core, first, second}
 use Rattle.calculus.specs.Types.{Ty, bit, qbit, unit, bang, arrow, tensor, bangs}
 use Rattle.calculus.proofs.Reading.{after}
 use Rattle.calculus.proofs.ReadTypes.{At, at_place, at_is}
+use Rattle.calculus.proofs.Subtyping.{core_bangs, marks_bangs}
 use Rattle.subtyping.specs.declared.placed.TypeAt.{TypeAt}
 use Rattle.subtyping.specs.Letters.{kind_of}
 use Rattle.subtyping.specs.Meaning.{standing, meant, past, Bare, Stripped}
@@ -136,14 +137,6 @@ pub core_within : (cs : List TypeCell) (p : ℕ) → TypesStand cs → p < lengt
 core_within cs p h l =
     let t = type_at cs p in
     omega (arith, at_room cs (p + marks t) (core t) (at_core cs p t (at_place cs p h l)), some_cells (core t))
-
-pub core_bangs : (n : ℕ) (a : Ty) → core (bangs n a) ≡ core a
-core_bangs zero a = refl
-core_bangs (suc n) a = core_bangs n a
-
-pub marks_bangs : (n : ℕ) (a : Ty) → marks (bangs n a) ≡ n + marks a
-marks_bangs zero a = omega arith
-marks_bangs (suc n) a = omega (arith, marks_bangs n a)
 
 pub bangs_more : (n m : ℕ) (a : Ty) → bangs (n + m) a ≡ bangs m (bangs n a)
 bangs_more n zero a = ap (λ k. bangs k a) (add-zero n)

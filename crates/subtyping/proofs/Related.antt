@@ -5,7 +5,8 @@ use Rattle.calculus.specs.Types.{Ty, bit, qbit, unit, bang, arrow, tensor, bangs
 use Rattle.calculus.specs.Cells.{type_cells}
 use Rattle.calculus.specs.Stripping.{same, marks, core, first, second, marks_fit, agree}
 use Rattle.calculus.proofs.Reading.{T_true}
-use Rattle.calculus.proofs.Stripping.{same_exact, subtype_exact, under_marks, T_and}
+use Rattle.calculus.proofs.Stripping.{same_exact, subtype_exact, agree_bang, T_and}
+use Rattle.calculus.proofs.Subtyping.{under_marks}
 use Rattle.subtyping.specs.Relating.{Asked, equality, subtyping, related, marks_agree}
 use Rattle.subtyping.specs.Letters.{kind_of}
 
@@ -42,14 +43,6 @@ agree_left s unit t = refl
 agree_left s (bang a) t = agree_left s a t
 agree_left s (arrow a b) t = refl
 agree_left s (tensor a b) t = refl
-
-agree_bang : (s : Bool) (a t : Ty) → agree s a (bang t) ≡ agree s a t
-agree_bang s bit t = refl
-agree_bang s qbit t = refl
-agree_bang s unit t = refl
-agree_bang s (bang a) t = agree_bang s a t
-agree_bang s (arrow a b) t = refl
-agree_bang s (tensor a b) t = refl
 
 agree_right : (s : Bool) (a t : Ty) → agree s a t ≡ agree s a (core t)
 agree_right s a bit = refl

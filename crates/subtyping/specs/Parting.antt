@@ -29,14 +29,14 @@ PartsAt types place Empty = Unit {0}
 PartsAt types place (Arrow a b) = PartsStand types place a b
 PartsAt types place (Pair a b) = PartsStand types place a b
 
--- The type is what stands after the marks that were counted, with them in front of it; the parts are where they stand.
+-- The type is what stands after the marks that were counted, with them in front of it, and the parts stand where they are said to.
 pub record Apart (a : TypeAt) (answer : ℕ × Core) : Type 0 where
   pub is : meant a ≡ bangs answer.0 (core_meant answer.1)
   pub count : answer.0 ≡ a.marks + marks (standing a)
   pub few : answer.0 ≤ a.marks + 255
   pub parts : PartsAt a.types.now (a.place + marks (standing a)) answer.1
 
--- The components of a pair, each after all the marks of the whole; they are where they stand.
+-- The components of a pair, each under all the marks of the whole, and where it stands.
 pub record Components (a left right : TypeAt) : Type 0 where
   pub left_is : meant left ≡ left_of (meant a)
   pub right_is : meant right ≡ right_of (meant a)

@@ -1,4 +1,4 @@
-//! Equality and subtyping of types that stand in tables.
+//! Types at places of tables, what they begin with, and the two relations between them: equality and subtyping.
 
 ghost use Rattle.std.specs.Prelude.{◌≡◌, ◌+◌, ◌<◌, length};
 ghost use Rattle.calculus.specs.Stripping.{marks, same, subtype};

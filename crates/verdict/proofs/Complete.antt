@@ -14,25 +14,10 @@ use Rattle.verdict.specs.Uses.{uses, nested}
 use Rattle.verdict.specs.declared.faults.CheckReason.TheVariants.{UsedTwice, Captures}
 use Rattle.verdict.proofs.Accepting.{then_accepted, must_accepted, entered}
 use Rattle.calculus.proofs.Stripping.{T_and}
+use Rattle.calculus.proofs.Subtyping.{core_bangs, first_bangs, second_bangs, marks_of}
 use Rattle.verdict.proofs.Uses.{from_either, used_free}
 use Rattle.verdict.proofs.Parting.{Has, has_twice, has_outside, in_domain, Copyable, all_copyable, implies}
 use Rattle.verdict.proofs.Sound.{claims}
-
-core_bangs : (n : ℕ) (t : Ty) → core (bangs n t) ≡ core t
-core_bangs zero t = refl
-core_bangs (suc n) t = core_bangs n t
-
-first_bangs : (n : ℕ) (t : Ty) → first (bangs n t) ≡ first t
-first_bangs zero t = refl
-first_bangs (suc n) t = first_bangs n t
-
-second_bangs : (n : ℕ) (t : Ty) → second (bangs n t) ≡ second t
-second_bangs zero t = refl
-second_bangs (suc n) t = second_bangs n t
-
-marks_bangs : (n : ℕ) (t : Ty) → marks t ≡ 0 → marks (bangs n t) ≡ n
-marks_bangs zero t e = e
-marks_bangs (suc n) t e = ap suc (marks_bangs n t e)
 
 pub not_some : (a : Ty) → None ≡ Some a → ⊥
 not_some a e = subst Has (sym e) tt
@@ -98,7 +83,7 @@ module _ (c : Ty) (n : ℕ) (t : Ty) (q : c ≡ bangs n t) where
   second_is = ap second q ∙ second_bangs n t
 
   marks_is : marks t ≡ 0 → marks c ≡ n
-  marks_is e = ap marks q ∙ marks_bangs n t e
+  marks_is e = marks_of c n t e q
 
 infixr 3 ◌&◌
 ◌&◌ : {A B : Type 0} → A → B → A × B

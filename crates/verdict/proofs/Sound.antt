@@ -1,5 +1,5 @@
 -- What the checker accepts has a derivation with its claims, and at most 32 nested binders.
-use Rattle.std.proofs.Common.{◌≡◌, ℕ, zero, suc, ◌+◌, ◌≤◌, not, ◌||◌, T, List, ◌∷◌, length, Some, None, Option, refl, ap, ◌∙◌, arith, leb→le}
+use Rattle.std.proofs.Common.{◌≡◌, ℕ, zero, suc, ◌+◌, ◌≤◌, not, ◌||◌, T, List, ◌∷◌, length, Some, None, Option, refl, ◌∙◌, arith, leb→le}
 use lib.Dec.{eqb_refl}
 use Rattle.std.specs.List.{slice_get}
 use Rattle.calculus.specs.Types.{Ty, unit, arrow, tensor, bangs}
@@ -14,16 +14,14 @@ use Rattle.verdict.specs.Sharing.{all_duplicable}
 use Rattle.verdict.specs.Uses.{uses, nested}
 use Rattle.verdict.specs.declared.faults.CheckReason.TheVariants.{UsedTwice, Captures}
 use Rattle.verdict.proofs.Accepting.{then_accepted, must_accepted, entered}
-use Rattle.calculus.proofs.Stripping.{T_and, same_exact, under_marks, subtype_exact}
+use Rattle.calculus.proofs.Stripping.{T_and, same_exact, subtype_exact}
+use Rattle.calculus.proofs.Subtyping.{under_marks_is}
 use Rattle.verdict.proofs.Uses.{in_left, in_right, free_used}
 use Rattle.verdict.proofs.Parting.{in_domain, copyable, copyable_duplicable, Agrees, agrees_inside, parted, left_agrees, right_agrees}
 
 variable_fitted : (c : Ty) (o : Option Ty) → T (variable_fits o c) → (a : Ty) × (o ≡ Some a) × T (subtype a c)
 variable_fitted c None h = elim h [ ]
 variable_fitted c (Some a) h = (a, refl, h)
-
-under_marks_is : (c t : Ty) → core c ≡ t → c ≡ bangs (marks c) t
-under_marks_is c t e = under_marks c ∙ ap (bangs (marks c)) e
 
 -- the claims of a node that is entered, as equations
 pub ruleset claims = (same_exact, subtype_exact, T_and)

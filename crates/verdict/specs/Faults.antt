@@ -1,5 +1,5 @@
 -- The faults of a program with their numbers, and verdicts made of tests in a row.
-use Rattle.std.specs.Prelude.{ℕ, Bool, cond, Some, None, Ok, Err, Option, Result}
+use Rattle.std.specs.Prelude.{ℕ, Bool, cond, Ok, Err, Result}
 use Rattle.verdict.specs.declared.faults.CheckReason.{CheckReason}
 use Rattle.verdict.specs.declared.faults.CheckReason.TheVariants.{TooManyCells, BadCell, NotWhole, ClaimOutside, TooDeep, NoBinder, WrongClaim, UsedTwice, Captures}
 use Rattle.verdict.specs.declared.faults.CheckFault.{CheckFault}
@@ -29,11 +29,6 @@ accepted = Ok tt
 -- the fault, or the next test where the first one passes
 abbrev pub must : Bool → CheckFault → Verdict → Verdict
 must b f v = cond b v (Err f)
-
--- the fault at the cell that was found, or the next test where none was
-abbrev pub none_at : (ℕ → CheckFault) → Option ℕ → Verdict → Verdict
-none_at f None v = v
-none_at f (Some k) v = Err (f k)
 
 -- the first refusal of two verdicts
 infixr 20 ◌then◌

@@ -1,7 +1,8 @@
 //! Why a program is refused, and at which cell.
 
 ghost use Rattle.std.specs.Prelude.{◌≡◌, if◌then◌else◌, Err};
-ghost use Rattle.verdict.specs.Faults.{accepted, fault, none_at, number_of};
+ghost use Rattle.trees.specs.Failing.{none_at};
+ghost use Rattle.verdict.specs.Faults.{accepted, fault, number_of};
 
 /// Why a program is refused, each reason with its number.
 #[derive(Clone, Copy, PartialEq, Eq, Debug, Drop)]

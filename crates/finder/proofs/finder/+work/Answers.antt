@@ -1,9 +1,11 @@
-use Rattle.std.proofs.Common.{rules, ◌+◌, Some, get_or, drop, ap, ◌∙◌, arith}
+use Rattle.std.proofs.Common.{rules, ◌+◌, List, Some, get_or, drop, ap, ◌∙◌, arith}
 use Rattle.calculus.specs.Cells.{blank}
+use Rattle.calculus.specs.declared.cells.TermCell.{TermCell}
 use Rattle.std.specs.Option.{option_or}
 use Rattle.finder.specs.Search.{Found}
 use Rattle.finder.specs.Words.{applied_of, branched_of, opened_of}
 use Rattle.finder.proofs.Working.{or_called, or_or, works_lam, works_app, works_pair, works_let, works_if, first_within, second_within}
+use Rattle.finder.proofs.Scans.{rest_is}
 use Rattle.finder.proofs.finder.+work.Goals as goal
 
 pub work-middle-requires : goal.work-middle-requires
@@ -46,8 +48,10 @@ returns-in-a t c =
     let r = c.work-middle.result in
     let s = c.work-end.result in
     let part = get_or cs (c.args.at + 1) blank in
-    let rule : Found = Some (c.args.at, applied_of part.op part.argument (drop r.0 cs)) in
-    let work = or_called c.or.result c.or_else-due.result rule c.or_else-due.ensures (λ k. search rules) ∙ ap (λ o. option_or o rule) c.or.ensures ∙ or_or s.1 r.1 rule in
+    let rule : List TermCell → Found = λ xs. Some (c.args.at, applied_of part.op part.argument xs) in
+    let rest = rest_is cs r.0 c.get-in-a.result _ c.unwrap_or_default-value.result c.get-in-a.ensures.lookup.0 (λ y d. d) c.unwrap_or_default-value.ensures in
+    let due = or_called c.or.result c.or_else-due.result (rule (drop r.0 cs)) c.or_else-due.ensures (λ k. search (rules, ap rule rest)) in
+    let work = due ∙ ap (λ o. option_or o (rule (drop r.0 cs))) c.or.ensures ∙ or_or s.1 r.1 (rule (drop r.0 cs)) in
     works_app cs c.requires.0 c.args.at c.requires.1 c.in-a.is r s c.or_else-due.result c.work-middle.ensures c.work-end.ensures work
 
 pub returns-in-p : goal.returns-in-p
