@@ -23,12 +23,11 @@ fn long_function(heap: Global, identities: usize, claims: bool) -> Result<String
 fn program(heap: Global, identities: usize, zeros: usize) -> Result<(String, String), AllocError> {
     let mut types = String::from_str(heap, ">!>bb")?;
     let mut text = String::from_str(heap, "a.5 l ")?;
-    let mut at: usize = 5;
     for _ in 0..zeros {
+        write!(text, "p.{} 0.3 ", types.len())?;
         types.push_str("*b")?;
-        write!(text, "p.{at} 0.3 ")?;
-        at = at.wrapping_add(2);
     }
+    let at = types.len();
     types.push_str("*>bb*>bb>bb")?;
     write!(text, "p.{at} v.2 p.{} v.2 v.2 ", at.wrapping_add(4))?;
     text.push_str(long_function(heap, identities, true)?.as_str())?;

@@ -1,5 +1,6 @@
 -- A program that is loaded on a new tape and runs, and what is handed back of it, in numbers.
 use Rattle.std.specs.Prelude.{◌≡◌, ℕ, List, replicate, Ok, Err, Result, OnErr}
+use Rattle.calculus.specs.Cells.{blank}
 use Rattle.calculus.specs.declared.cells.TermCell.{TermCell}
 use Rattle.calculus.specs.declared.cells.TypeCell.{TypeCell}
 use Rattle.registers.specs.Meaning.{Changes, after_clear}
@@ -19,7 +20,7 @@ use Rattle.exported.specs.declared.answers.Verdict.{Verdict}
 use Rattle.exported.specs.declared.tables.Node.{Node}
 use Rattle.exported.specs.declared.tables.Pulse.{Pulse}
 use Rattle.exported.specs.Numbers.{node_of, number_of_kind, pulse_of, handed}
-use Rattle.exported.specs.Verdicts.{acceptance, check_refusal, call_refusal}
+use Rattle.exported.specs.Verdicts.{acceptance, check_refusal, call_refusal, fresh_kinds}
 
 -- A program is loaded, and runs if the load is not refused; a refused call leaves everything as it was.
 module _ {C : Type 0} (changes : Changes C) (types : List TypeCell) (terms : List TermCell) (budget : ℕ) (a b : Standing C) (answer : Result (ℕ × Stop) Refusal) where
@@ -38,7 +39,7 @@ abbrev pub new_standing : List ℕ → Standing Reel
 new_standing outcomes = record {
   shot = nothing_held;
   register = after_clear tape_changes (new_tape 8 outcomes (replicate 64 Empty));
-  work = replicate 1024 (record { op = 0; argument = 0; claim = 0 });
+  work = replicate 1024 blank;
 }
 
 -- how a run stopped, 0 at a value and 1 at a spent budget, and its steps; or the refused call
@@ -61,8 +62,8 @@ value_in b (Ok n) = begun_with b.shot.cells b.work
 value_in b (Err f) = b.work
 
 abbrev pub type_in : Standing Reel → Result (ℕ × ℕ) Refusal → List TypeCell
-type_in b (Ok n) = begun_with b.shot.kinds (replicate 256 (record { kind = 0 }))
-type_in b (Err f) = replicate 256 (record { kind = 0 })
+type_in b (Ok n) = begun_with b.shot.kinds fresh_kinds
+type_in b (Err f) = fresh_kinds
 
 abbrev pub collected : Standing Reel → Result (ℕ × ℕ) Refusal
 collected b = collect_answer b.shot 1024 256

@@ -1,6 +1,7 @@
 -- What calls answer in numbers.
 use Rattle.std.specs.Prelude.{ℕ, replicate, List, Some, None, Ok, Err, Option, Result}
 use Rattle.calculus.specs.Cells.{blank}
+use Rattle.calculus.specs.declared.cells.TypeCell.{TypeCell}
 use Rattle.controller.specs.declared.faults.Refusal.{Refusal}
 use Rattle.controller.specs.Faults as controller
 use Rattle.finder.specs.declared.faults.FindFault.{FindFault}
@@ -35,9 +36,13 @@ read_refusal f = refusal (number_of f.reason) f.line
 abbrev pub call_refusal : Refusal → Verdict
 call_refusal r = refusal (controller.fault_number r.fault) r.place
 
+-- a new table of as many kinds as a program may have
+abbrev pub fresh_kinds : List TypeCell
+fresh_kinds = replicate 256 (record { kind = 0 })
+
 -- a read into new tables of 256 kinds and 512 ops
 abbrev pub fresh_reading : List ℕ → Outcome
-fresh_reading text = reading text (replicate 256 (record { kind = 0 })) (replicate 512 blank)
+fresh_reading text = reading text fresh_kinds (replicate 512 blank)
 
 -- both counts, or the fault and its line
 abbrev pub verdict_of : Result (ℕ × ℕ) ReadFault → Verdict

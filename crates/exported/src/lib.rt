@@ -1,5 +1,6 @@
 //! The library for programs that are not Rattle's: reading, checking, finding, stepping and whole shots, over tables of plain numbers.
-//! Each operation stands here twice: once with its answer, and once made so often as it is asked for, so that it can be timed.
+//! Reading, checking, finding, stepping and running stand here twice: once with the answer, and once made as often as asked, to be timed.
+//! A whole shot from its text is only timed.
 #![tactic(auto)]
 
 mod answers;

@@ -8,7 +8,7 @@ use checker::check;
 use finder::find;
 use std::alloc::{AllocError, Global};
 use std::time::Instant;
-use stepper::{Answer, next};
+use stepper::{Answer, next, put_next};
 
 /// How often each call is timed; the shortest time counts.
 const REPEATS: u32 = 400;
@@ -24,9 +24,7 @@ fn cell(op: char) -> TermCell {
 fn conditions(heap: Global, layers: usize) -> Result<Vec<TermCell>, AllocError> {
     let mut cells = vec![in heap; cell('i'); layers]?;
     cells.push(cell('0'))?;
-    for _ in 0..layers {
-        cells.extend_from_slice(&[cell('1'), cell('0')])?;
-    }
+    cells.extend_from_slice(&[cell('1'), cell('0')].repeat(heap, layers)?)?;
     Ok(cells)
 }
 
@@ -58,10 +56,10 @@ fn step(cells: &[TermCell], work: &mut [TermCell]) -> anyhow::Result<()> {
         bail!("the conditions have no step");
     };
     ensure!(
-        next(cells, rule, at, Answer::Nothing, &mut []).is_some(),
+        next(cells, rule, at, Answer::Nothing, &mut []).is_some()
+            && put_next(cells, rule, at, Answer::Nothing, work).is_some(),
         "the next term is too long"
     );
-    let _ = next(cells, rule, at, Answer::Nothing, work);
     Ok(())
 }
 

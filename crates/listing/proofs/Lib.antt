@@ -1,4 +1,5 @@
 mod Counted
 mod Cutting
 mod Plain
+mod Played
 mod Texts

@@ -7,4 +7,4 @@ mod shots;
 
 pub use lines::listing;
 pub use promises::{listings_are_read_back, samples_are_listed};
-pub use shots::{Shot, play};
+pub use shots::{MOST_BYTES, Shot, play};

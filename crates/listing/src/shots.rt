@@ -5,15 +5,18 @@ ghost use Rattle.controller.specs.Faults.{fault_number};
 ghost use Rattle.reader.specs.Faults.{number_of as read_number};
 ghost use Rattle.verdict.specs.Faults.{number_of as check_number};
 ghost use Rattle.listing.specs.declared.shots.Shot.TheVariants.{Refused};
-ghost use Rattle.listing.specs.Playing.{alternating, before_empty, shot_of};
+ghost use Rattle.listing.specs.Playing.{alternating, before_empty, shot_of, run_made, cells_collected, CellsPlayed, TextPlayed};
 
 use calculus::{MOST_RUNNING_CELLS, MOST_TERM_CELLS, MOST_TYPE_CELLS, TermCell, TypeCell};
 use controller::{Refusal, Stop};
-use player::{Done, Turn, TurnFault, play as play_row};
+use player::{Done, Reply, Turn, TurnFault, play as play_row};
 use reader::{ReadFault, read};
 use registers::{Entry, Tape};
 use std::alloc::{AllocError, Global};
 use verdict::CheckFault;
+
+/// Bytes of a text that `qlshot` reads at most; `play` takes any text.
+pub const MOST_BYTES: usize = 16_384;
 
 /// Steps that a shot makes at most.
 pub const BUDGET: u64 = 1000;
@@ -104,8 +107,31 @@ impl From<TurnFault> for Shot {
     }
 }
 
+// The steps of a run and why it stopped, or why its load or the run itself was refused, by the replies to both.
+fn run_made(loaded: Option<Reply>, run: Option<Reply>) -> Result<(u64, Stop), TurnFault>
+    ensures { result ≡ run_made loaded run }
+{
+    match (loaded, run) {
+        (Some(Err(fault)), _) | (_, Some(Err(fault))) => Err(fault),
+        (_, Some(Ok(Done::Ran(steps, stop)))) => Ok((steps, stop)),
+        _ => Ok((0, Stop::Budget)),
+    }
+}
+
+// The counts of a value's cells and of its type's, by the reply to a collect: none where a run stopped before a value.
+fn cells_collected(collected: Option<Reply>) -> (usize, usize)
+    ensures { result ≡ cells_collected collected }
+{
+    match collected {
+        Some(Ok(Done::Collected(cells, kind_cells))) => (cells, kind_cells),
+        _ => (0, 0),
+    }
+}
+
 // Plays a shot's row on a new tape: a load, a run and the collecting of its value.
-fn play_cells(heap: Global, types: &[TypeCell], terms: &[TermCell]) -> Result<Shot, AllocError> {
+fn play_cells(heap: Global, types: &[TypeCell], terms: &[TermCell]) -> Result<Shot, AllocError>
+    ensures { IfOk result (λ shot. CellsPlayed types.now terms.now shot) }
+{
     let outcomes = outcomes(heap)?;
     let mut journal = vec![in heap; Entry::Empty; PULSES]?;
     let mut work = vec![in heap; TermCell::default(); MOST_RUNNING_CELLS]?;
@@ -119,16 +145,12 @@ fn play_cells(heap: Global, types: &[TypeCell], terms: &[TermCell]) -> Result<Sh
     let mut replies = [None; 3];
     let tape = Tape::new(CAPACITY, &outcomes, &mut journal);
     let controller = play_row(tape, &row, &mut work, &mut value, &mut kinds, &mut replies);
-    let (steps, stop) = match replies {
-        [Some(Err(fault)), ..] | [_, Some(Err(fault)), _] => return Ok(Shot::from(fault)),
-        [_, Some(Ok(Done::Ran(steps, stop))), _] => (steps, stop),
-        _ => (0, Stop::Budget),
+    let [loaded, run, collected] = replies;
+    let (steps, stop) = match run_made(loaded, run) {
+        Ok(made) => made,
+        Err(fault) => return Ok(Shot::from(fault)),
     };
-    // A run that stopped before a value has none to collect.
-    let (cells, kind_cells) = match replies {
-        [.., Some(Ok(Done::Collected(cells, kind_cells)))] => (cells, kind_cells),
-        _ => (0, 0),
-    };
+    let (cells, kind_cells) = cells_collected(collected);
     value.truncate(cells);
     kinds.truncate(kind_cells);
     Ok(Shot::Ran {
@@ -141,7 +163,9 @@ fn play_cells(heap: Global, types: &[TypeCell], terms: &[TermCell]) -> Result<Sh
 }
 
 /// Plays the shot of a stored program's text.
-pub fn play(heap: Global, text: &[u8]) -> Result<Shot, AllocError> {
+pub fn play(heap: Global, text: &[u8]) -> Result<Shot, AllocError>
+    ensures { IfOk result (λ shot. TextPlayed text.now shot) }
+{
     let mut types = vec![in heap; TypeCell::default(); MOST_TYPE_CELLS]?;
     let mut terms = vec![in heap; TermCell::default(); MOST_TERM_CELLS]?;
     match read(text, &mut types, &mut terms) {

@@ -3,12 +3,9 @@
 
 ghost use Rattle.std.specs.Prelude.{◌≡◌, ◌≤◌, length, take, drop, IfOk, IfSome, Some};
 
-use listing::{listing, play};
+use listing::{MOST_BYTES, listing, play};
 use std::io;
 use std::io::Read;
-
-/// Bytes of standard input that are read; what follows is left.
-const MOST_BYTES: usize = 16_384;
 
 // Fills the buffer from a reader until it is full or the reader ends, and no further; answers how many bytes there are.
 fn read_input<R: Read>(input: &mut R, buffer: &mut [u8]) -> io::Result<usize>
