@@ -3,28 +3,21 @@
 ghost use Rattle.std.specs.Prelude.{◌≡◌, take};
 ghost use Rattle.agreement.specs.Rules.{renamed_rule};
 
-use crate::tally::{Outcome, Tally};
 use calculus::TermCell;
 use checker::check;
+use drafts::Draft;
 use finder::{Rule, find};
-use listing::{listing, play};
-use samples::Draft;
+use listing::{MOST_BYTES, listing, play};
 use second::{SecondRule, second_check, second_find, second_shot};
 use std::alloc::{AllocError, Global};
 use std::io;
-
-/// How many bytes of a program are read.
-const MOST_BYTES: usize = 16_384;
+use tally::{Outcome, Tally};
 
 // The part of a text that is read.
 fn seen(text: &[u8]) -> &[u8]
     ensures { result.now ≡ take 16384 text.now }
 {
-    if text.len() > MOST_BYTES {
-        &text[0..MOST_BYTES]
-    } else {
-        text
-    }
+    &text[..MOST_BYTES.min(text.len())]
 }
 
 /// A text's bytes, each as a character.
@@ -33,7 +26,7 @@ pub fn shown(heap: Global, text: &[u8]) -> Result<String, AllocError> {
 }
 
 /// Compares the shots of a stored program; a difference is printed whole.
-pub fn compare_shots(rt: &HostRuntime, tally: &mut Tally, text: &[u8]) -> io::Result<bool> {
+pub fn compare_shots(tally: &mut Tally, text: &[u8]) -> io::Result<bool> {
     let heap = tally.heap();
     let text = seen(text);
     let shot = play(heap, text)?;
@@ -43,25 +36,25 @@ pub fn compare_shots(rt: &HostRuntime, tally: &mut Tally, text: &[u8]) -> io::Re
         return Ok(true);
     }
     let program = shown(heap, text)?;
-    println!(rt; "difference in the shots of\n{program}\nfirst\n{first}second\n{second}")?;
+    println!(tally.rt; "difference in the shots of\n{program}\nfirst\n{first}second\n{second}")?;
     Ok(false)
 }
 
 /// Compares the checks of a program's cells.
-pub fn compare_checks(rt: &HostRuntime, tally: &mut Tally, draft: &Draft) -> io::Result<()> {
+pub fn compare_checks(tally: &mut Tally, draft: &Draft) -> io::Result<()> {
     let first = check(&draft.types, &draft.terms)
-        .err()
-        .map(|fault| (fault.number(), fault.cell));
+        .map(|_| ())
+        .map_err(|fault| (fault.number(), fault.cell));
     let second = second_check(tally.heap(), &draft.types, &draft.terms)?;
     let outcome = match first {
-        None => Outcome::CheckAccepted,
-        Some((number, _)) => Outcome::CheckRefused(number),
+        Ok(()) => Outcome::CheckAccepted,
+        Err((number, _)) => Outcome::CheckRefused(number),
     };
     if tally.compare(first == second, outcome)? {
         return Ok(());
     }
     let program = draft.text()?;
-    println!(rt; "difference in the checks of\n{program}first {first:?}\nsecond {second:?}")
+    println!(tally.rt; "difference in the checks of\n{program}first {first:?}\nsecond {second:?}")
 }
 
 // The second interpreter's name of a rule.
@@ -80,7 +73,7 @@ fn renamed(rule: Rule) -> SecondRule
 }
 
 /// Compares where the next step of any cells is.
-pub fn compare_finds(rt: &HostRuntime, tally: &mut Tally, cells: &[TermCell]) -> io::Result<()> {
+pub fn compare_finds(tally: &mut Tally, cells: &[TermCell]) -> io::Result<()> {
     let first = find(cells)
         .map(|found| found.map(|(rule, cell)| (renamed(rule), cell)))
         .map_err(|fault| (fault.number(), fault.cell));
@@ -93,5 +86,5 @@ pub fn compare_finds(rt: &HostRuntime, tally: &mut Tally, cells: &[TermCell]) ->
     if tally.compare(first == second, outcome)? {
         return Ok(());
     }
-    println!(rt; "difference in the finds of\n{cells:?}\nfirst {first:?}\nsecond {second:?}")
+    println!(tally.rt; "difference in the finds of\n{cells:?}\nfirst {first:?}\nsecond {second:?}")
 }

@@ -3,8 +3,8 @@
 ghost use Rattle.std.specs.Prelude.{◌<◌, ◌≤◌, length, IfSome};
 
 use crate::compare::{compare_shots, shown};
-use crate::tally::Tally;
 use std::io;
+use tally::Tally;
 
 // The name and the length of an example, from the line before it.
 fn heading(line: &str) -> Option<(&str, usize)> {
@@ -34,21 +34,16 @@ fn program(after: &[u8], size: usize) -> Option<(&[u8], &[u8])>
 }
 
 // Compares the two interpreters on one example.
-fn compare_example(
-    rt: &HostRuntime,
-    tally: &mut Tally,
-    name: &str,
-    program: &[u8],
-) -> io::Result<()> {
-    if compare_shots(rt, tally, program)? {
-        println!(rt; "example {name} agreed")
+fn compare_example(tally: &mut Tally, name: &str, program: &[u8]) -> io::Result<()> {
+    if compare_shots(tally, program)? {
+        println!(tally.rt; "example {name} agreed")
     } else {
-        println!(rt; "example {name} differs")
+        println!(tally.rt; "example {name} differs")
     }
 }
 
 /// Compares the two interpreters on each example of the input.
-pub fn compare_examples(rt: &HostRuntime, tally: &mut Tally, input: &[u8]) -> io::Result<()> {
+pub fn compare_examples(tally: &mut Tally, input: &[u8]) -> io::Result<()> {
     let mut rest = input;
     while let Some((line, after)) = first_line(rest) {
         let line = shown(tally.heap(), line)?;
@@ -57,9 +52,9 @@ pub fn compare_examples(rt: &HostRuntime, tally: &mut Tally, input: &[u8]) -> io
         };
         let Some((program, next)) = program(after, size) else {
             tally.differ();
-            return println!(rt; "example {name} is cut short");
+            return println!(tally.rt; "example {name} is cut short");
         };
-        compare_example(rt, tally, name, program)?;
+        compare_example(tally, name, program)?;
         rest = next;
     }
     Ok(())

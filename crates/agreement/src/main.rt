@@ -6,7 +6,6 @@
 mod compare;
 mod examples;
 mod generated;
-mod tally;
 
 use samples::Random;
 use std::io::Read;
@@ -23,26 +22,26 @@ fn asked(rt: &HostRuntime) -> io::Result<Option<(u64, usize)>> {
 }
 
 // Compares the examples of the input, and the programs that are generated.
-fn compare_all(rt: &HostRuntime, tally: &mut Tally) -> io::Result<()> {
-    let mut input = Vec::new(rt.alloc());
-    rt.stdin().read_to_end(&mut input)?;
-    examples::compare_examples(rt, tally, &input)?;
+fn compare_all(tally: &mut Tally) -> io::Result<()> {
+    let mut input = Vec::new(tally.heap());
+    tally.rt.stdin().read_to_end(&mut input)?;
+    examples::compare_examples(tally, &input)?;
     let mut random = Random::new(88_172_645_463_325_252);
-    generated::compare_drawn(rt, tally, &mut random)?;
-    generated::compare_damaged(rt, tally, &mut random)?;
-    generated::compare_limits(rt, tally)?;
-    generated::compare_long_tables(rt, tally)?;
-    generated::compare_running(rt, tally, &mut random)
+    generated::compare_drawn(tally, &mut random)?;
+    generated::compare_damaged(tally, &mut random)?;
+    generated::compare_limits(tally)?;
+    generated::compare_long_tables(tally)?;
+    generated::compare_running(tally, &mut random)
 }
 
 fn main(rt: HostRuntime) -> io::Result<()> {
-    let mut tally = Tally::new(rt.alloc());
+    let mut tally = Tally::new(&rt);
     match asked(&rt)? {
         Some((seed, count)) => {
             let mut random = Random::new(seed.max(1));
-            generated::compare_many(&rt, &mut tally, &mut random, count)?;
+            generated::compare_many(&mut tally, &mut random, count)?;
         }
-        None => compare_all(&rt, &mut tally)?,
+        None => compare_all(&mut tally)?,
     }
-    tally.print(&rt)
+    tally.print()
 }

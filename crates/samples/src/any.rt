@@ -4,7 +4,7 @@ ghost use Rattle.std.specs.Prelude.{◌≡◌, ◌<◌, IfOk};
 
 use crate::random::Random;
 use calculus::Gate;
-use second::{Head, Kind, same};
+use kinds::{Head, Kind, same};
 use std::alloc::{AllocError, Global};
 
 /// A constant that is a function.
@@ -29,8 +29,8 @@ pub const FUNCTIONS: [Function; 10] = [
     Function::Measure,
 ];
 
-/// How many of these are gates.
-pub const GATES: usize = 8;
+/// How many of these are gates: the first ones.
+pub const GATE_COUNT: usize = 8;
 
 impl Function {
     /// The op and the argument of the constant's cell.

@@ -1,8 +1,8 @@
-//! Programs with something changed: a cell, or the bytes of the text.
+//! Programs with something changed, a cell or the bytes of the text, and running cells of any kind.
 
-use crate::drafts::{Draft, as_claim};
 use crate::random::Random;
 use calculus::{TermCell, TypeCell, op_shape};
+use drafts::{Draft, as_claim};
 use std::alloc::{AllocError, Global};
 
 // The letters of ops, and of those without parts.
@@ -147,14 +147,8 @@ fn change_header(heap: Global, random: &mut Random, text: &[u8]) -> Result<Vec<u
 /// Changes one thing in a program's text.
 pub fn damage_text(heap: Global, random: &mut Random, text: &[u8]) -> Result<Vec<u8>, AllocError> {
     match random.below(10) {
-        0 => {
-            let line = random.below(20);
-            repeat_line(heap, text, line, 0)
-        }
-        1 => {
-            let line = random.below(20);
-            repeat_line(heap, text, line, 2)
-        }
+        0 => repeat_line(heap, text, random.below(20), 0),
+        1 => repeat_line(heap, text, random.below(20), 2),
         2 => change_header(heap, random, text),
         3 | 4 => change_number(heap, random, text),
         5 => {

@@ -1,8 +1,8 @@
 //! The terms that make a value of a type from its parts, or a qubit by a constant.
 
-use crate::any::{FUNCTIONS, Function, GATES};
+use crate::any::{FUNCTIONS, Function, GATE_COUNT};
 use crate::makers::{Maker, Task};
-use second::{Head, Kind, is_below};
+use kinds::{Head, Kind, is_below};
 use std::alloc::AllocError;
 
 impl<'r> Maker<'r> {
@@ -19,18 +19,12 @@ impl<'r> Maker<'r> {
     fn gate(&mut self, kind: &Kind) -> Result<Option<Function>, AllocError> {
         let heap = self.heap;
         self.random
-            .find(&FUNCTIONS[..GATES], |gate| gate.takes(heap, kind))
+            .find(&FUNCTIONS[..GATE_COUNT], |gate| gate.takes(heap, kind))
     }
 
     // A function of an argument and a body of types: where it is marked, the variables that may be used once only are out of
     // reach until its end.
-    fn lambda(
-        &mut self,
-        kind: &Kind,
-        argument: &Kind,
-        body: &Kind,
-        fuel: u32,
-    ) -> Result<(), AllocError> {
+    fn lambda(&mut self, kind: &Kind, argument: &Kind, body: &Kind) -> Result<(), AllocError> {
         self.emit('l', 0, kind)?;
         if kind.marks > 0 {
             self.tasks.push(Task::Reopen(self.spent.clone()?))?;
@@ -41,7 +35,7 @@ impl<'r> Maker<'r> {
             }
         }
         self.tasks.push(Task::Leave(self.scope.len()))?;
-        self.due(body, fuel)?;
+        self.due(body)?;
         self.scope.push(argument.clone()?)?;
         Ok(())
     }
@@ -52,45 +46,38 @@ impl<'r> Maker<'r> {
         function: Function,
         argument: &Kind,
         kind: &Kind,
-        fuel: u32,
     ) -> Result<(), AllocError> {
         self.emit('a', 0, kind)?;
         let claim = Kind::arrow(self.heap, 0, argument.clone()?, kind.clone()?)?;
         let (op, number) = function.cell();
         self.emit(op, number, &claim)?;
-        self.due(argument, fuel)
+        self.due(argument)
     }
 
     // A pair of two components of types, under the marks of the pair.
-    fn pair_value(
-        &mut self,
-        kind: &Kind,
-        left: &Kind,
-        right: &Kind,
-        fuel: u32,
-    ) -> Result<(), AllocError> {
+    fn pair_value(&mut self, kind: &Kind, left: &Kind, right: &Kind) -> Result<(), AllocError> {
         self.emit('p', 0, kind)?;
-        self.due(&right.marked(kind.marks)?, fuel)?;
-        self.due(&left.marked(kind.marks)?, fuel)
+        self.due(&right.marked(kind.marks)?)?;
+        self.due(&left.marked(kind.marks)?)
     }
 
     // Emits the root of a term by what its type is, and leaves its parts to be made.
-    pub(crate) fn introduce(&mut self, kind: &Kind, fuel: u32) -> Result<(), AllocError> {
-        if fuel > 0 && self.random.chance(60) {
+    pub(crate) fn introduce(&mut self, kind: &Kind) -> Result<(), AllocError> {
+        if self.fuel > 0 && self.random.chance(60) {
             if let Some(gate) = self.gate(kind)? {
-                return self.applied(gate, kind, kind, fuel);
+                return self.applied(gate, kind, kind);
             }
         }
         match &kind.head {
-            Head::Bit if fuel > 0 && self.random.chance(40) => {
-                self.applied(Function::Measure, &Head::Qubit.marked(0), kind, fuel)
+            Head::Bit if self.fuel > 0 && self.random.chance(40) => {
+                self.applied(Function::Measure, &Head::Qubit.marked(0), kind)
             }
             Head::Bit => {
                 let op = if self.random.chance(50) { '0' } else { '1' };
                 self.emit(op, 0, kind)
             }
             Head::Unit => self.emit('s', 0, kind),
-            Head::Qubit => self.applied(Function::New, &Head::Bit.marked(0), kind, fuel),
+            Head::Qubit => self.applied(Function::New, &Head::Bit.marked(0), kind),
             Head::Arrow(a, b) => {
                 if self.random.chance(40) {
                     if let Some(function) = self.constant(kind)? {
@@ -98,9 +85,9 @@ impl<'r> Maker<'r> {
                         return self.emit(op, argument, kind);
                     }
                 }
-                self.lambda(kind, a, b, fuel)
+                self.lambda(kind, a, b)
             }
-            Head::Pair(a, b) => self.pair_value(kind, a, b, fuel),
+            Head::Pair(a, b) => self.pair_value(kind, a, b),
         }
     }
 }

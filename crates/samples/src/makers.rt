@@ -3,9 +3,9 @@
 ghost use Rattle.std.specs.Prelude.{◌≡◌, ◌+◌, vec_len, OnOk};
 
 use crate::any::any_kind;
-use crate::drafts::Draft;
 use crate::random::Random;
-use second::{Head, Kind, is_below, same};
+use drafts::Draft;
+use kinds::{Head, Kind, is_below, same};
 use std::alloc::{AllocError, Global};
 use std::collections::BTreeSet;
 use std::mem;
@@ -27,17 +27,22 @@ pub(crate) enum Task {
     Join,
 }
 
-// The generator that is drawn from, the program so far, the variables in scope, the levels of those that are spent, and the
-// tasks, the next one last.
+// A program in the making.
 #[derive(Drop)]
 pub(crate) struct Maker<'r> {
     pub(crate) heap: Global,
     pub(crate) random: &'r mut Random,
     pub(crate) draft: Draft,
+    // The types of the variables in scope, the outermost first, and the levels of those that are spent.
     pub(crate) scope: Vec<Kind>,
     pub(crate) spent: BTreeSet<usize>,
+    // Of each open condition what was spent before its branches, and from the second one on what its first branch left spent.
     pub(crate) forks: Vec<BTreeSet<usize>>,
+    // The next task stands last.
     pub(crate) tasks: Vec<Task>,
+    // The fuel of the parts of the term that is being made.
+    pub(crate) fuel: u32,
+    // Whether spent variables may be used again.
     pub(crate) is_careless: bool,
 }
 
@@ -51,10 +56,10 @@ impl<'r> Maker<'r> {
         self.draft.cell(op, argument, claim)
     }
 
-    pub(crate) fn due(&mut self, kind: &Kind, fuel: u32) -> Result<(), AllocError>
+    pub(crate) fn due(&mut self, kind: &Kind) -> Result<(), AllocError>
         ensures { OnOk result (vec_len self.new.tasks ≡ vec_len self.old.tasks + 1) }
     {
-        self.tasks.push(Task::Make(kind.clone()?, fuel))?;
+        self.tasks.push(Task::Make(kind.clone()?, self.fuel))?;
         Ok(())
     }
 
@@ -92,34 +97,34 @@ impl<'r> Maker<'r> {
         any_kind(self.random, self.heap, u32::from(is_deeper), true)
     }
 
-    fn apply(&mut self, kind: &Kind, fuel: u32) -> Result<(), AllocError> {
+    fn apply(&mut self, kind: &Kind) -> Result<(), AllocError> {
         let argument = self.argument(kind)?;
         let function = Kind::arrow(self.heap, 0, argument.clone()?, kind.clone()?)?;
         self.emit('a', 0, kind)?;
-        self.due(&argument, fuel)?;
-        self.due(&function, fuel)
+        self.due(&argument)?;
+        self.due(&function)
     }
 
-    fn split(&mut self, kind: &Kind, fuel: u32) -> Result<(), AllocError> {
+    fn split(&mut self, kind: &Kind) -> Result<(), AllocError> {
         let marks = usize::from(self.random.chance(25));
         let a = any_kind(self.random, self.heap, 1, marks == 0)?;
         let b = any_kind(self.random, self.heap, 1, marks == 0)?;
         let (x, y) = (a.marked(marks)?, b.marked(marks)?);
         self.emit('d', 0, kind)?;
         self.tasks.push(Task::Leave(self.scope.len()))?;
-        self.due(kind, fuel)?;
+        self.due(kind)?;
         self.tasks.push(Task::Bind(x, y))?;
-        self.due(&Kind::pair(self.heap, marks, a, b)?, fuel)
+        self.due(&Kind::pair(self.heap, marks, a, b)?)
     }
 
-    fn choose(&mut self, kind: &Kind, fuel: u32) -> Result<(), AllocError> {
+    fn choose(&mut self, kind: &Kind) -> Result<(), AllocError> {
         self.emit('i', 0, kind)?;
         self.tasks.push(Task::Join)?;
-        self.due(kind, fuel)?;
+        self.due(kind)?;
         self.tasks.push(Task::Turn)?;
-        self.due(kind, fuel)?;
+        self.due(kind)?;
         self.tasks.push(Task::Fork)?;
-        self.due(&Head::Bit.marked(0), fuel)
+        self.due(&Head::Bit.marked(0))
     }
 
     // Emits the root of a term and leaves its parts to be made.
@@ -129,14 +134,15 @@ impl<'r> Maker<'r> {
                 return self.variable(level, kind);
             }
         }
+        self.fuel = fuel.saturating_sub(1);
         if fuel == 0 {
-            return self.introduce(kind, 0);
+            return self.introduce(kind);
         }
         match self.random.below(9) {
-            0 | 1 => self.apply(kind, fuel - 1),
-            2 | 3 => self.split(kind, fuel - 1),
-            4 => self.choose(kind, fuel - 1),
-            _ => self.introduce(kind, fuel - 1),
+            0 | 1 => self.apply(kind),
+            2 | 3 => self.split(kind),
+            4 => self.choose(kind),
+            _ => self.introduce(kind),
         }
     }
 
@@ -176,6 +182,7 @@ pub fn any_program(
 ) -> Result<Draft, AllocError> {
     let depth = if random.chance(50) { 1 } else { 2 };
     let root = any_kind(random, heap, depth, true)?;
+    let fuel = if random.chance(50) { 4 } else { 6 };
     let mut maker = Maker {
         heap,
         random,
@@ -184,15 +191,15 @@ pub fn any_program(
         spent: BTreeSet::new(heap),
         forks: Vec::new(heap),
         tasks: Vec::new(heap),
+        fuel,
         is_careless,
     };
-    let fuel = if maker.random.chance(50) { 4 } else { 6 };
-    maker.due(&root, fuel)?;
+    maker.due(&root)?;
     for _ in 0..2000 {
-        match maker.tasks.pop() {
-            Some(task) => maker.perform(task)?,
-            None => return Ok(maker.draft),
-        }
+        let Some(task) = maker.tasks.pop() else {
+            break;
+        };
+        maker.perform(task)?;
     }
     Ok(maker.draft)
 }

@@ -1,5 +1,5 @@
-pub mod Kinds
 pub mod Reasons
 pub mod Tables
+pub mod Tapes
 pub mod Terms
 pub mod Trees

@@ -1,5 +1,9 @@
--- The numbers of refusals.
-use Rattle.std.specs.Prelude.{ℕ}
+-- The numbers of refusals, and the faults for them.
+use Rattle.std.specs.Prelude.{ℕ, Ok, Err, Result}
+use Rattle.std.specs.declared.alloc.AllocError.{AllocError}
+use Rattle.second.specs.declared.halt.Fault.{Fault}
+use Rattle.second.specs.declared.halt.Halt.{Halt}
+use Rattle.second.specs.declared.halt.Halt.TheVariants.{Memory, Fault as FaultHalt}
 use Rattle.second.specs.declared.halt.Reason.{Reason}
 use Rattle.second.specs.declared.halt.Reason.TheVariants.{Header, Line, Number, FullTable, End, TooManyCells, BadCell, NotWhole, ClaimOutside, TooDeep, NoBinder, WrongClaim, UsedTwice, Captures, NoRule, TooLong, NoPulses, Full, NotLive, GivenTwice}
 
@@ -25,3 +29,17 @@ number_of NoPulses = 41
 number_of Full = 42
 number_of NotLive = 45
 number_of GivenTwice = 46
+
+-- the fault for a reason at a line, a cell or a count of steps
+abbrev pub fault : Reason → ℕ → Fault
+fault r k = record { reason = r; place = k }
+
+-- a halt by this fault
+abbrev pub halt : Reason → ℕ → Halt
+halt r k = FaultHalt (fault r k)
+
+-- the answer or its fault, or that no memory was left
+abbrev pub outcome_of : {T : Type 0} → Result T Halt → Result (Result T Fault) AllocError
+outcome_of (Ok v) = Ok (Ok v)
+outcome_of (Err (FaultHalt f)) = Ok (Err f)
+outcome_of (Err (Memory e)) = Err e

@@ -1,13 +1,13 @@
 //! Why a reading, a check or a step ends early.
 
 ghost use Rattle.std.specs.Prelude.{◌≡◌, if◌then◌else◌, Ok, Err, alloc_error};
-ghost use Rattle.second.specs.Reasons.{number_of};
+ghost use Rattle.second.specs.Reasons.{number_of, fault, outcome_of};
 ghost use Rattle.second.specs.declared.halt.Halt.TheVariants.{Memory, Fault as FaultHalt};
 
 use std::alloc::{AllocError, AllocFailed};
 
 /// What a text, cells or a step are refused for, each with its number.
-#[derive(Clone, Copy, PartialEq, Eq, Debug, Drop)]
+#[derive(Clone, Copy, Drop)]
 pub enum Reason {
     Header = 11,
     Line = 12,
@@ -34,7 +34,7 @@ pub enum Reason {
 impl Reason {
     /// The fault for this reason at a line, a cell or a count of steps.
     pub fn at(self, place: usize) -> Fault
-        ensures { result ≡ record { reason = self; place = place } }
+        ensures { result ≡ fault self place }
     {
         Fault {
             reason: self,
@@ -44,7 +44,7 @@ impl Reason {
 
     /// Refuses for this reason where a test tells to.
     pub fn refuse_if(self, test: bool, place: usize) -> Result<(), Fault>
-        ensures { result ≡ (if test then Err (record { reason = self; place = place }) else Ok tt) }
+        ensures { result ≡ (if test then Err (fault self place) else Ok tt) }
     {
         if test { Err(self.at(place)) } else { Ok(()) }
     }
@@ -59,26 +59,27 @@ impl From<Reason> for u16 {
 }
 
 /// A refusal, at a line, a cell or a count of steps.
-#[derive(Clone, Copy, PartialEq, Eq, Debug, Drop)]
+#[derive(Clone, Copy, Drop)]
 pub struct Fault {
     pub reason: Reason,
     pub place: usize,
 }
 
 /// No memory was left, or a fault.
-#[derive(Debug, Drop)]
+#[derive(Drop)]
 pub enum Halt {
     Memory(AllocError),
     Fault(Fault),
 }
 
-impl Halt {
-    /// The fault, or that no memory was left.
-    pub fn into_fault(self) -> Result<Fault, AllocError> {
-        match self {
-            Halt::Memory(error) => Err(error),
-            Halt::Fault(fault) => Ok(fault),
-        }
+/// The answer or its fault, or that no memory was left.
+pub fn settled<T: Drop>(answer: Result<T, Halt>) -> Result<Result<T, Fault>, AllocError>
+    ensures { result ≡ outcome_of answer }
+{
+    match answer {
+        Ok(value) => Ok(Ok(value)),
+        Err(Halt::Fault(fault)) => Ok(Err(fault)),
+        Err(Halt::Memory(error)) => Err(error),
     }
 }
 

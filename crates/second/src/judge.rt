@@ -1,13 +1,13 @@
 //! The typing rules on trees: the first fault in tree order, and which variables a tree uses.
 
 ghost use Rattle.std.specs.Prelude.{◌≡◌, ◌+◌, ◌<◌, ◌≤◌, length, [], Ok, Err, vec_len, IfOk, MatchResult};
-ghost use Rattle.second.specs.declared.halt.Halt.TheVariants.{Fault as FaultHalt};
+ghost use Rattle.second.specs.Reasons.{fault, halt};
 ghost use Rattle.second.specs.declared.halt.Reason.TheVariants.{ClaimOutside, NoBinder, TooDeep};
 
 use crate::halt::{Fault, Halt, Reason};
-use crate::kinds::{Head, Kind, is_below, same};
 use crate::nodes::{Constant, Node, Site, Tree};
 use calculus::MOST_BINDERS;
+use kinds::{Head, Kind, is_below, leaf_uses, same};
 use std::alloc::{AllocError, Global};
 use std::collections::BTreeSet;
 
@@ -91,7 +91,7 @@ impl<'k> Judge<'k> {
 
     // The type that a node claims.
     fn claimed(&self, site: Site) -> Result<&'k Kind, Fault>
-        ensures { MatchResult result (λ _. site.claim < length self.now.kinds.now) (λ e. e ≡ record { reason = ClaimOutside; place = site.cell }) }
+        ensures { MatchResult result (λ _. site.claim < length self.now.kinds.now) (λ e. e ≡ fault ClaimOutside site.cell) }
     {
         self.kinds
             .get(site.claim)
@@ -100,7 +100,7 @@ impl<'k> Judge<'k> {
 
     // A variable: the level of its binder, if it may be used once only.
     fn variable(&self, site: Site, index: u16) -> Result<BTreeSet<usize>, Halt>
-        ensures { vec_len self.now.scope ≤ index → result ≡ Err (FaultHalt (record { reason = NoBinder; place = site.cell })) }
+        ensures { vec_len self.now.scope ≤ index → result ≡ Err (halt NoBinder site.cell) }
     {
         let level = self
             .scope
@@ -122,12 +122,12 @@ impl<'k> Judge<'k> {
     {
         let is_right = is_typed(self.heap, leaf, self.claimed(site)?)?;
         Reason::WrongClaim.refuse_if(!is_right, site.cell)?;
-        Ok(BTreeSet::new(self.heap))
+        Ok(leaf_uses(self.heap))
     }
 
     // Tests a function's rule before its body, enters its binder, and answers how many marks lead its claim.
     fn enter_lambda(&mut self, site: Site, body: Site) -> Result<usize, Halt>
-        ensures { 32 ≤ vec_len self.old.scope → result ≡ Err (FaultHalt (record { reason = TooDeep; place = site.cell })) }
+        ensures { 32 ≤ vec_len self.old.scope → result ≡ Err (halt TooDeep site.cell) }
     {
         Reason::TooDeep.refuse_if(self.scope.len() >= MOST_BINDERS, site.cell)?;
         let claim = self.claimed(site)?;
@@ -142,7 +142,7 @@ impl<'k> Judge<'k> {
 
     // Tests a split's rule before its parts, and answers what its binders have.
     fn open_split(&self, site: Site, pair: Site, body: Site) -> Result<(Kind, Kind), Halt>
-        ensures { 32 < vec_len self.now.scope + 2 → result ≡ Err (FaultHalt (record { reason = TooDeep; place = site.cell })) }
+        ensures { 32 < vec_len self.now.scope + 2 → result ≡ Err (halt TooDeep site.cell) }
     {
         Reason::TooDeep.refuse_if(self.scope.len() + 2 > MOST_BINDERS, site.cell)?;
         let pair = self.claimed(pair)?;

@@ -1,10 +1,9 @@
 //! A second interpreter of the quantum lambda calculus, on boxed trees with named variables. It shares no code with the
-//! first but the cells, so that the two can be run against each other.
+//! first but the cells and the numbers of the limits, so that the two can be run against each other.
 #![tactic(auto)]
 
 mod halt;
 mod judge;
-mod kinds;
 mod listing;
 mod nodes;
 mod seeks;
@@ -15,6 +14,5 @@ mod tape;
 mod terms;
 mod texts;
 
-pub use kinds::{Head, Kind, is_below, same, write_kind};
 pub use seeks::SecondRule;
 pub use shots::{second_check, second_find, second_shot};

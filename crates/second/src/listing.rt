@@ -3,10 +3,10 @@
 ghost use Rattle.std.specs.Prelude.{◌≡◌, ◌≤◌, length};
 
 use crate::halt::{Fault, Reason};
-use crate::kinds::{Kind, write_kind};
 use crate::nodes::Constant;
 use crate::tape::{Operands, Pulse};
 use crate::terms::Term;
+use kinds::{Kind, write_kind};
 use std::alloc::{AllocError, Global};
 use std::fmt;
 

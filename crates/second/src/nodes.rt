@@ -4,12 +4,12 @@ ghost use Rattle.std.specs.Prelude.{◌≡◌};
 ghost use Rattle.second.specs.Trees.{constant_of};
 
 use crate::halt::{Fault, Halt, Reason};
-use crate::kinds::{Head, Kind};
 use calculus::{TermCell, TypeCell};
+use kinds::{Head, Kind};
 use std::alloc::Global;
 
 /// A term without parts that is no variable; gates and qubits have their number.
-#[derive(Clone, Copy, PartialEq, Debug, Drop)]
+#[derive(Clone, Copy, PartialEq, Drop)]
 pub enum Constant {
     Zero,
     One,

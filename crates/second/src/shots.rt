@@ -1,8 +1,10 @@
 //! A whole shot: a stored program's text, read, checked, run and listed.
 
-use crate::halt::{Fault, Halt, Reason};
+ghost use Rattle.std.specs.Prelude.{◌≡◌};
+ghost use Rattle.second.specs.Reasons.{number_of};
+
+use crate::halt::{Fault, Halt, Reason, settled};
 use crate::judge::Judge;
-use crate::kinds::Kind;
 use crate::listing::{Ending, Listing};
 use crate::nodes::{Tree, grow, grow_kinds};
 use crate::seeks::{SecondRule, seek};
@@ -12,6 +14,7 @@ use crate::tape::Tape;
 use crate::terms::{Names, Term, holds, name, size};
 use crate::texts::read;
 use calculus::{MOST_RUNNING_CELLS, TermCell, TypeCell};
+use kinds::Kind;
 use std::alloc::{AllocError, Global};
 use std::mem;
 
@@ -73,10 +76,10 @@ impl Shot {
 
     fn run(&mut self, heap: Global) -> Result<Ending, AllocError> {
         for _ in 0..BUDGET {
-            match self.step(heap) {
+            match settled(self.step(heap))? {
                 Ok(true) => {}
                 Ok(false) => return Ok(Ending::Value),
-                Err(halt) => return Ok(Ending::Refused(halt.into_fault()?.reason)),
+                Err(fault) => return Ok(Ending::Refused(fault.reason)),
             }
         }
         match seek(&self.term, 0) {
@@ -114,22 +117,20 @@ fn shoot(heap: Global, text: &[u8], listing: &mut Listing) -> Result<(), Halt> {
 /// The listing of a stored program's shot.
 pub fn second_shot(heap: Global, text: &[u8]) -> Result<String, AllocError> {
     let mut listing = Listing::new(heap);
-    if let Err(halt) = shoot(heap, text, &mut listing) {
-        listing.refusal(halt.into_fault()?)?;
+    if let Err(fault) = settled(shoot(heap, text, &mut listing))? {
+        listing.refusal(fault)?;
     }
     Ok(listing.into_text())
 }
 
-/// The fault of a program's cells with its cell, or none where they are accepted.
+/// Nothing where the cells of a program are accepted; or the number and the cell of their fault.
 pub fn second_check(
     heap: Global,
     types: &[TypeCell],
     terms: &[TermCell],
-) -> Result<Option<(u16, usize)>, AllocError> {
-    match accept(heap, types, terms) {
-        Ok(_) => Ok(None),
-        Err(halt) => Ok(Some(numbered(halt.into_fault()?))),
-    }
+) -> Result<Result<(), (u16, usize)>, AllocError> {
+    let checked = settled(accept(heap, types, terms))?;
+    Ok(checked.map(|_| ()).map_err(numbered))
 }
 
 fn find_rule(heap: Global, cells: &[TermCell]) -> Result<Option<(SecondRule, usize)>, Halt> {
@@ -148,13 +149,12 @@ pub fn second_find(
     heap: Global,
     cells: &[TermCell],
 ) -> Result<Result<Option<(SecondRule, usize)>, (u16, usize)>, AllocError> {
-    match find_rule(heap, cells) {
-        Ok(found) => Ok(Ok(found)),
-        Err(halt) => Ok(Err(numbered(halt.into_fault()?))),
-    }
+    Ok(settled(find_rule(heap, cells))?.map_err(numbered))
 }
 
 // A fault by its number and place.
-fn numbered(fault: Fault) -> (u16, usize) {
+fn numbered(fault: Fault) -> (u16, usize)
+    ensures { result ≡ (number_of fault.reason, fault.place) }
+{
     (fault.reason.into(), fault.place)
 }

@@ -1,6 +1,7 @@
 //! The faults of whole tables: their lengths, their cells, that they are whole trees, and the places of claims.
 
 ghost use Rattle.std.specs.Prelude.{◌≡◌, ◌<◌, length, Err, true, false};
+ghost use Rattle.second.specs.Reasons.{fault};
 ghost use Rattle.second.specs.declared.halt.Reason.TheVariants.{TooManyCells};
 ghost use Rattle.second.specs.Tables.{parts, kind_parts, kind_letter, fit_cell};
 
@@ -86,14 +87,14 @@ pub fn one_term(terms: &[TermCell]) -> Result<(), Fault> {
 
 // A table has so many cells at most.
 fn short<T>(cells: &[T], most: usize) -> Result<(), Fault>
-    ensures { most < length cells.now → result ≡ Err (record { reason = TooManyCells; place = most }) }
+    ensures { most < length cells.now → result ≡ Err (fault TooManyCells most) }
 {
     Reason::TooManyCells.refuse_if(cells.len() > most, most)
 }
 
 /// The first fault of a program's tables, or none.
 pub fn test_tables(types: &[TypeCell], terms: &[TermCell]) -> Result<(), Fault>
-    ensures { 256 < length types.now → result ≡ Err (record { reason = TooManyCells; place = 256 }) }
+    ensures { 256 < length types.now → result ≡ Err (fault TooManyCells 256) }
 {
     short(types, MOST_TYPE_CELLS)?;
     short(terms, MOST_TERM_CELLS)?;
@@ -110,7 +111,7 @@ pub fn test_tables(types: &[TypeCell], terms: &[TermCell]) -> Result<(), Fault>
 
 /// The first fault of a running term's cells, or none.
 pub fn test_running(cells: &[TermCell]) -> Result<(), Fault>
-    ensures { 1024 < length cells.now → result ≡ Err (record { reason = TooManyCells; place = 1024 }) }
+    ensures { 1024 < length cells.now → result ≡ Err (fault TooManyCells 1024) }
 {
     short(cells, MOST_RUNNING_CELLS)?;
     each(cells, Reason::BadCell, |cell| is_running(cell))?;

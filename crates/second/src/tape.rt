@@ -1,12 +1,11 @@
 //! The tape's register as the second interpreter knows it: eight qubits, sixty-four pulses, and the parity of a pulse's
 //! number as its outcome.
 
-ghost use Rattle.std.specs.Prelude.{◌≡◌, ◌<◌, ◌≤◌, [], ◌∷◌, ◌++◌, IfSome, IfOk, OnOk, Err, vec_len};
-ghost use Rattle.second.specs.declared.halt.Halt.TheVariants.{Fault as FaultHalt};
-ghost use Rattle.second.specs.declared.halt.Reason.TheVariants.{NoPulses};
+ghost use Rattle.std.specs.Prelude.{◌≡◌, ◌<◌, [], ◌∷◌, ◌++◌, IfSome, IfOk, OnOk};
+ghost use Rattle.second.specs.Tapes.{RefusesSpent};
 ghost use Rattle.second.specs.declared.tape.Pulse.TheVariants.{Prepare, Gate, Read};
 
-use crate::halt::{Fault, Halt, Reason};
+use crate::halt::{Halt, Reason};
 use std::alloc::Global;
 use std::collections::BTreeSet;
 
@@ -54,10 +53,10 @@ impl Tape {
         self.live.contains(&handle)
     }
 
-    fn test_pulses(&self) -> Result<(), Fault>
-        ensures { 64 ≤ vec_len self.now.journal → result ≡ Err (record { reason = NoPulses; place = 0 }) }
+    fn test_pulses(&self) -> Result<(), Halt>
+        ensures { RefusesSpent self.now result }
     {
-        Reason::NoPulses.refuse_if(self.journal.len() >= PULSES, 0)
+        Ok(Reason::NoPulses.refuse_if(self.journal.len() >= PULSES, 0)?)
     }
 
     // The next handle that is not live, going round from the last answered.
@@ -71,7 +70,7 @@ impl Tape {
 
     /// Prepares a qubit and answers its handle.
     pub fn prepare(&mut self, value: bool) -> Result<u16, Halt>
-        ensures limit { 64 ≤ vec_len self.old.journal → result ≡ Err (FaultHalt (record { reason = NoPulses; place = 0 })) }
+        ensures limit { RefusesSpent self.old result }
         ensures pulse { IfOk result (λ handle. self.new.journal.items ≡ self.old.journal.items ++ (Prepare handle value ∷ [])) }
     {
         self.test_pulses()?;
@@ -84,7 +83,7 @@ impl Tape {
 
     /// Reads a qubit, which stays live.
     pub fn read(&mut self, handle: u16) -> Result<bool, Halt>
-        ensures limit { 64 ≤ vec_len self.old.journal → result ≡ Err (FaultHalt (record { reason = NoPulses; place = 0 })) }
+        ensures limit { RefusesSpent self.old result }
         ensures pulse { IfOk result (λ outcome. self.new.journal.items ≡ self.old.journal.items ++ (Read handle outcome ∷ [])) }
     {
         self.test_pulses()?;
@@ -96,7 +95,7 @@ impl Tape {
 
     /// Does a gate on live qubits, no two of them the same.
     pub fn gate(&mut self, gate: u16, on: Operands) -> Result<(), Halt>
-        ensures limit { 64 ≤ vec_len self.old.journal → result ≡ Err (FaultHalt (record { reason = NoPulses; place = 0 })) }
+        ensures limit { RefusesSpent self.old result }
         ensures pulse { OnOk result (self.new.journal.items ≡ self.old.journal.items ++ (Gate gate on ∷ [])) }
     {
         self.test_pulses()?;

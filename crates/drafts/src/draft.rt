@@ -1,0 +1,120 @@
+//! A program in the making: its two tables, and the text that stores them.
+
+ghost use Rattle.std.specs.Prelude.{◌≡◌, ◌+◌, min, length, vec_len, IfOk, OnOk};
+
+use calculus::{TermCell, TypeCell};
+use kinds::{Kind, write_kind};
+use std::alloc::{AllocError, Global};
+
+/// The cells of a program.
+#[derive(Drop)]
+pub struct Draft {
+    pub heap: Global,
+    pub types: Vec<TypeCell>,
+    pub terms: Vec<TermCell>,
+}
+
+/// A place as a claim holds it.
+pub fn as_claim(place: usize) -> u16
+    ensures { result ≡ min place 65535 }
+{
+    u16::try_from(place).unwrap_or(u16::MAX)
+}
+
+impl Draft {
+    /// No cells yet.
+    pub fn new(heap: Global) -> Draft
+        ensures { (vec_len result.types ≡ 0) × (vec_len result.terms ≡ 0) }
+    {
+        Draft {
+            heap,
+            types: Vec::new(heap),
+            terms: Vec::new(heap),
+        }
+    }
+
+    /// A new place for a type, behind the table.
+    pub fn new_place(&mut self, kind: &Kind) -> Result<u16, AllocError>
+        ensures { IfOk result (λ place. place ≡ min (vec_len self.old.types) 65535) }
+    {
+        let end = self.types.len();
+        write_kind(kind, &mut self.types)?;
+        Ok(as_claim(end))
+    }
+
+    /// The first place of the type table where a type stands, or else a new one behind the table.
+    pub fn place(&mut self, kind: &Kind) -> Result<u16, AllocError> {
+        let mut code = Vec::new(self.heap);
+        write_kind(kind, &mut code)?;
+        let mut places = 0..self.types.len();
+        match places.find(|&place| self.types[place..].starts_with(&code)) {
+            Some(place) => Ok(as_claim(place)),
+            None => self.new_place(kind),
+        }
+    }
+
+    /// More type cells, by their letters.
+    pub fn kinds(&mut self, letters: &str) -> Result<(), AllocError>
+        ensures { self.new.terms ≡ self.old.terms }
+    {
+        for kind in letters.chars() {
+            self.types.push(TypeCell { kind })?;
+        }
+        Ok(())
+    }
+
+    /// More term cells, each by its op, argument and claim.
+    pub fn cells(&mut self, cells: &[(char, u16, u16)]) -> Result<(), AllocError>
+        ensures { OnOk result (vec_len self.new.terms ≡ vec_len self.old.terms + length cells.now) }
+    {
+        for (op, argument, claim) in cells {
+            self.cell(*op, *argument, *claim)?;
+        }
+        Ok(())
+    }
+
+    /// More term cells from a text: op, argument and claim of each, with a comma and a blank between cells.
+    pub fn stored(&mut self, cells: &str) -> Result<(), AllocError> {
+        for cell in cells.split(',') {
+            let mut fields = cell.split_whitespace();
+            let (Some(op), Some(argument), Some(claim)) = (
+                fields.next(),
+                fields.next(),
+                fields.next(),
+            ) else {
+                return Ok(());
+            };
+            let argument = argument.parse().unwrap_or(u16::MAX);
+            let claim = claim.parse().unwrap_or(u16::MAX);
+            for op in op.chars() {
+                self.cell(op, argument, claim)?;
+            }
+        }
+        Ok(())
+    }
+
+    /// One more term cell, which claims a place.
+    pub fn cell(&mut self, op: char, argument: u16, claim: u16) -> Result<(), AllocError>
+        ensures { OnOk result (vec_len self.new.terms ≡ vec_len self.old.terms + 1) }
+    {
+        self.terms.push(TermCell {
+            op,
+            argument,
+            claim,
+        })?;
+        Ok(())
+    }
+
+    /// The text that stores the cells.
+    pub fn text(&self) -> Result<String, AllocError> {
+        let mut text = String::from_str(self.heap, "QL\t1\n")?;
+        for cell in self.types.iter() {
+            writeln!(text, "T\t{}", cell.kind)?;
+        }
+        for cell in self.terms.iter() {
+            writeln!(text, "M\t{}\t{}\t{}", cell.op, cell.argument, cell.claim)?;
+        }
+        writeln!(text, "E\t{}\t{}", self.types.len(), self.terms.len())?;
+        Ok(text)
+    }
+}

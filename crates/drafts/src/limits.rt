@@ -1,0 +1,122 @@
+//! Programs that meet a limit, and that pass it by little, by how large they are made.
+
+ghost use Rattle.std.specs.Prelude.{◌≡◌, ◌+◌, ◌*◌, vec_len, IfOk, OnOk};
+ghost use Rattle.drafts.specs.Counts.{padded_count};
+
+use crate::draft::Draft;
+use std::alloc::{AllocError, Global};
+
+// The types that these programs share: b at 0, b>b at 1, b*b at 4, !(b>b) at 7, and !(b>b)>b at 11.
+const COMMON: &str = "b>bb*bb!>bb>!>bbb";
+
+pub(crate) fn common(heap: Global) -> Result<Draft, AllocError>
+    ensures { IfOk result (λ draft. vec_len draft.terms ≡ 0) }
+{
+    let mut draft = Draft::new(heap);
+    draft.kinds(COMMON)?;
+    Ok(draft)
+}
+
+// The identity on bits, so many times around the bit that follows: three cells and one step each.
+pub(crate) fn wrap(draft: &mut Draft, times: usize) -> Result<(), AllocError>
+    ensures { OnOk result (vec_len draft.new.terms ≡ vec_len draft.old.terms + 3 * times) }
+{
+    for _ in 0..times {
+        draft.cells(&[('a', 0, 0), ('l', 0, 1), ('v', 0, 0)])?;
+    }
+    Ok(())
+}
+
+// A bit of five cells.
+fn five(draft: &mut Draft) -> Result<(), AllocError>
+    ensures { OnOk result (vec_len draft.new.terms ≡ vec_len draft.old.terms + 5) }
+{
+    draft.cells(&[
+        ('d', 0, 0),
+        ('p', 0, 4),
+        ('0', 0, 0),
+        ('1', 0, 0),
+        ('v', 0, 0),
+    ])
+}
+
+// A bit of so many cells, or of the next count with the same remainder by 3 that such a bit has.
+pub(crate) fn padded(draft: &mut Draft, cells: usize) -> Result<(), AllocError>
+    ensures { OnOk result (vec_len draft.new.terms ≡ vec_len draft.old.terms + padded_count cells) }
+{
+    match cells % 3 {
+        1 => {
+            wrap(draft, cells / 3)?;
+            draft.cell('0', 0, 0)
+        }
+        2 => {
+            wrap(draft, (cells / 3).saturating_sub(1))?;
+            five(draft)
+        }
+        _ => {
+            wrap(draft, (cells / 3).saturating_sub(4))?;
+            draft.cell('i', 0, 0)?;
+            five(draft)?;
+            draft.cell('1', 0, 0)?;
+            five(draft)
+        }
+    }
+}
+
+/// A bit, with a type table of so many cells.
+pub fn type_cells(heap: Global, cells: usize) -> Result<Draft, AllocError>
+    ensures { IfOk result (λ draft. vec_len draft.terms ≡ 1) }
+{
+    let mut draft = Draft::new(heap);
+    draft.kinds(&"b".repeat(heap, cells)?)?;
+    draft.cell('0', 0, 0)?;
+    Ok(draft)
+}
+
+/// A bit of so many term cells: of 1, 4, 5, 7, 8 or more than 9.
+pub fn term_cells(heap: Global, cells: usize) -> Result<Draft, AllocError>
+    ensures { IfOk result (λ draft. vec_len draft.terms ≡ padded_count cells) }
+{
+    let mut draft = common(heap)?;
+    padded(&mut draft, cells)?;
+    Ok(draft)
+}
+
+/// So many leading marks on the claim of a bit.
+pub fn marks(heap: Global, marks: usize) -> Result<Draft, AllocError>
+    ensures { IfOk result (λ draft. vec_len draft.terms ≡ 1) }
+{
+    let mut draft = Draft::new(heap);
+    draft.kinds(&"!".repeat(heap, marks)?)?;
+    draft.kinds("b")?;
+    draft.cell('1', 0, 0)?;
+    Ok(draft)
+}
+
+/// So many functions, one in the other, around a variable that counts outward, or around a split.
+pub fn binders(heap: Global, functions: u8, variable: Option<u16>) -> Result<Draft, AllocError> {
+    let mut draft = Draft::new(heap);
+    for i in 0..functions {
+        draft.kinds(">b")?;
+        draft.cell('l', 0, 2 * i as u16)?;
+    }
+    draft.kinds("b*bb")?;
+    let bit = 2 * functions as u16;
+    match variable {
+        Some(index) => draft.cell('v', index, bit)?,
+        None => draft.cells(&[
+            ('d', 0, bit),
+            ('p', 0, bit + 1),
+            ('0', 0, bit),
+            ('0', 0, bit),
+            ('v', 0, bit),
+        ])?,
+    }
+    Ok(draft)
+}
+
+/// A text of so many bytes, whose second line is too long for a line and ends the text.
+pub fn long_line(heap: Global, bytes: usize) -> Result<String, AllocError> {
+    let kinds = "b".repeat(heap, bytes.saturating_sub(8))?;
+    format!(in heap; "QL\t1\nT\t{kinds}\n")
+}
