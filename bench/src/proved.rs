@@ -18,7 +18,8 @@ pub struct Pulse {
     pub on: [u8; 3],
 }
 
-/// The number of the fault, or 0 for none; where the fault is; and two numbers of an accepted call.
+/// The number of the fault, 0 for none, or 1 where a run spent its budget; where the fault is, or the
+/// steps made before a refused step; and two numbers of an accepted call, or the steps of a run, however it stopped.
 #[repr(C)]
 #[derive(Clone, Copy, PartialEq, Eq, Debug)]
 pub struct Verdict {

@@ -166,18 +166,12 @@ pub fn parted(text: &[u8], mark: u8) -> Option<(&[u8], &[u8])> {
     None
 }
 
-/// Where a read stands: its section, the cells so far, and whether the end line, once read, counts just these.
+/// Where a read stands: its section and the cells so far.
 #[derive(Clone, Copy)]
 pub struct Place {
     pub section: Section,
     pub kinds: usize,
     pub ops: usize,
-    pub agrees: bool,
-}
-
-// Whether the counts of an end line are those of the cells.
-fn counts_agree(counts: (u16, u16), place: Place) -> bool {
-    counts.0 as usize == place.kinds && counts.1 as usize == place.ops
 }
 
 // Takes in a line, and answers where the read stands after it.
@@ -199,21 +193,20 @@ fn take_line(
             let cell = term_cell(op, argument, claim)?;
             next.ops = put(terms, place.ops, MOST_TERM_CELLS, cell)?;
         }
-        Record::Counts(kinds, ops) => next.agrees = counts_agree(numbers(kinds, ops)?, place),
-        Record::Header | Record::Other => {}
+        Record::Header | Record::Counts(_, _) | Record::Other => {}
     }
     Ok(next)
 }
 
 // The verdict at the end of the text, by what stands after its last ended line.
 fn close(rest: &[u8], due: usize, place: Place) -> Result<(usize, usize), ReadFault> {
-    if place.section != Section::End {
+    let Section::End(kinds, ops) = place.section else {
         return Err(ReadReason::End.at(due));
-    }
+    };
     if !rest.is_empty() {
         return Err(ReadReason::Line.at(due));
     }
-    if !place.agrees {
+    if (kinds as usize, ops as usize) != (place.kinds, place.ops) {
         return Err(ReadReason::End.at(due - 1));
     }
     Ok((place.kinds, place.ops))
@@ -230,7 +223,6 @@ pub fn read(
         section: Section::Header,
         kinds: 0,
         ops: 0,
-        agrees: false,
     };
     let mut due = 1;
     let mut rest = text;
@@ -251,17 +243,20 @@ pub enum Section {
     Header,
     Types,
     Terms,
-    End,
+    End(u16, u16),
 }
 
-/// The section after a line, where the line is allowed.
+/// The section after a line, where the line is allowed and its counts are numbers.
 pub fn next_section(section: Section, line: Record) -> Result<Section, ReadReason> {
     match (section, line) {
         (Section::Header, Record::Header) => Ok(Section::Types),
         (Section::Header, _) => Err(ReadReason::Header),
         (Section::Types, Record::Kind(_)) => Ok(Section::Types),
         (Section::Types | Section::Terms, Record::Term(_, _, _)) => Ok(Section::Terms),
-        (Section::Types | Section::Terms, Record::Counts(_, _)) => Ok(Section::End),
+        (Section::Types | Section::Terms, Record::Counts(kinds, ops)) => {
+            let (kinds, ops) = numbers(kinds, ops)?;
+            Ok(Section::End(kinds, ops))
+        }
         _ => Err(ReadReason::Line),
     }
 }

@@ -1,4 +1,4 @@
-//! A register of handles over a tape.
+//! The trait `Register`, handles, and the tape.
 
 use super::calculus::*;
 

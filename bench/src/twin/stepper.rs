@@ -3,38 +3,31 @@
 use super::calculus::*;
 use super::trees::*;
 
-// Whether the ops from `at` on begin with the letters of a word.
-fn spells(cells: &[TermCell], at: usize, word: &[char]) -> bool {
-    let rest = cells.get(at..).unwrap_or_default();
-    word.len() <= rest.len()
-        && rest
+// Whether the ops of the cells begin with the letters of a word.
+fn spells(cells: &[TermCell], word: &[char]) -> bool {
+    word.len() <= cells.len()
+        && cells
             .iter()
             .zip(word)
             .all(|(cell, letter)| cell.op == *letter)
 }
 
-// Whether the tree at `at` is as many qubits as the gate of a number takes.
-fn are_operands(cells: &[TermCell], gate: u16, at: usize) -> bool {
+// Whether the cells begin with as many qubits as the gate of a number takes.
+fn are_operands(cells: &[TermCell], gate: u16) -> bool {
     match Gate::from_number(gate) {
-        Some(Gate::Cnot | Gate::Swap) => spells(cells, at, &['p', 'q', 'q']),
-        Some(Gate::Toffoli) => spells(cells, at, &['p', 'q', 'p', 'q', 'q']),
-        _ => spells(cells, at, &['q']),
+        Some(Gate::Cnot | Gate::Swap) => spells(cells, &['p', 'q', 'q']),
+        Some(Gate::Toffoli) => spells(cells, &['p', 'q', 'p', 'q', 'q']),
+        _ => spells(cells, &['q']),
     }
 }
 
-// The cell at `at`, or a blank one past the end.
-fn cell_at(cells: &[TermCell], at: usize) -> TermCell {
-    cells.get(at).copied().unwrap_or_default()
-}
-
-// The rule for a value, by its first cell, applied to the value at `argument`.
-fn applied(function: TermCell, cells: &[TermCell], argument: usize) -> Option<Rule> {
+// The rule for a value, by its first cell, applied to the value that the other cells begin with.
+fn applied(function: TermCell, argument: &[TermCell]) -> Option<Rule> {
     match function.op {
         'l' => Some(Rule::Function),
-        'n' => (spells(cells, argument, &['0']) || spells(cells, argument, &['1']))
-            .then_some(Rule::Prepare),
-        'm' => spells(cells, argument, &['q']).then_some(Rule::Read),
-        'g' => are_operands(cells, function.argument, argument).then_some(Rule::Gates),
+        'n' => (spells(argument, &['0']) || spells(argument, &['1'])).then_some(Rule::Prepare),
+        'm' => spells(argument, &['q']).then_some(Rule::Read),
+        'g' => are_operands(argument, function.argument).then_some(Rule::Gates),
         _ => None,
     }
 }
@@ -64,15 +57,16 @@ fn work(cells: &[TermCell], at: usize) -> (usize, Option<(usize, Option<Rule>)>)
     if at >= cells.len() {
         return (at, None);
     }
-    let part = cell_at(cells, at + 1);
+    let part = cells.get(at + 1).copied().unwrap_or_default();
     match cells[at].op {
         'l' => (past(cells, at), None),
         'a' => {
             let (middle, function) = work(cells, at + 1);
             let (end, argument) = work(cells, middle);
+            let value = cells.get(middle..).unwrap_or_default();
             let due = argument
                 .or(function)
-                .or_else(|| Some((at, applied(part, cells, middle))));
+                .or_else(|| Some((at, applied(part, value))));
             (end, due)
         }
         'p' => {

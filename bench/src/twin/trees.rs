@@ -23,18 +23,12 @@ pub fn reach<T: Cell>(cells: &[T], at: usize) -> Option<usize> {
 /// Copies the tree at `at` to the front of a table, whose rest stays, and answers its number of cells;
 /// nothing is copied where the cells end first or the table is too short.
 pub fn copy<T: Cell>(cells: &[T], at: usize, to: &mut [T]) -> Option<usize> {
-    match reach(cells, at) {
-        Some(end) if end - at <= to.len() => {
-            copy_range(cells, at, end, to);
-            Some(end - at)
-        }
-        _ => None,
+    let len = reach(cells, at)? - at;
+    if len > to.len() {
+        return None;
     }
-}
-
-// Copies the cells from `start` to `end` to the front of a table, whose rest stays.
-fn copy_range<T: Copy>(from: &[T], start: usize, end: usize, to: &mut [T]) {
-    to[0..end - start].copy_from_slice(&from[start..end]);
+    to[..len].copy_from_slice(&cells[at..at + len]);
+    Some(len)
 }
 
 /// How many whole trees the cells are, one after the other, or nothing where one is unfinished.
