@@ -1,5 +1,5 @@
-//! Types as boxed trees: each node counts the marks that lead it, so that stripping them is no work. And which variables a
-//! constant of any type uses.
+//! Types as boxed trees, each node of which counts the marks that lead it, so that stripping them is no work; and the
+//! variables that a constant uses.
 #![tactic(auto)]
 
 ghost use Rattle.std.specs.Prelude.{◌≡◌, [], ◌+◌, ◌-◌, ◌^◌, ◌<◌, min, false, IfOk};
@@ -129,7 +129,7 @@ pub fn is_below(a: &Kind, b: &Kind) -> bool
     }
 }
 
-/// The levels of the variables that a constant uses: none.
+/// The levels of the variables that a constant of any type uses: none.
 pub fn leaf_uses(heap: Global) -> BTreeSet<usize>
     ensures { result.keys ≡ [] }
 {
