@@ -5,6 +5,7 @@ pub mod Erasure
 pub mod Failing
 pub mod Lemmas
 pub mod Narrowing
+pub mod NewCells
 pub mod Preservation
 pub mod ReadTerms
 pub mod ReadTypes

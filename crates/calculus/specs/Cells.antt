@@ -6,7 +6,7 @@ use Rattle.calculus.specs.Terms.{Const, bit_of, meas, new, gate, Var, bound, hel
 use Rattle.calculus.specs.declared.cells.TypeCell.{TypeCell}
 use Rattle.calculus.specs.declared.cells.TermCell.{TermCell}
 
-abbrev kind_cell : ℕ → TypeCell
+abbrev pub kind_cell : ℕ → TypeCell
 kind_cell k = record { kind = k }
 
 -- a type's cells: b, q, u, !, >, *

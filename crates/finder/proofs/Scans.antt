@@ -1,5 +1,6 @@
 -- The comparison of ops with a word.
-use Rattle.std.proofs.Common.{◌≡◌, ℕ, ◌+◌, ◌-◌, ◌<◌, ◌≤◌, ◌⊎◌, true, false, Bool, ◌&&◌, eqb, List, [], ◌∷◌, length, drop, Option, Some, None, sym, refl, ap, ◌∙◌, Bor, arith}
+use Rattle.std.proofs.Common.{◌≡◌, ℕ, ◌+◌, ◌-◌, ◌<◌, ◌≤◌, ◌⊎◌, false, Bool, ◌&&◌, eqb, List, [], ◌∷◌, length, drop, Option, Some, None, sym, refl, ap, ◌∙◌, Bor, arith}
+use Rattle.std.proofs.Math.Bool.{and-false}
 use Rattle.std.proofs.lemmas.List.{drop_all, take_all, length-drop}
 use Rattle.std.specs.List.{zip, list_all, slice_range}
 use Rattle.std.specs.Option.{MatchOption, UnwrapsOrElse}
@@ -19,11 +20,7 @@ spelt_zipped (w ∷ ws) (c ∷ cs) l = ap (λ b. eqb c.op w && b) (spelt_zipped 
 pub spelt_short : (ws : List ℕ) (cs : List TermCell) → length cs < length ws → spelt ws cs ≡ false
 spelt_short [] cs l = absurd (omega arith)
 spelt_short (w ∷ ws) [] l = refl
-spelt_short (w ∷ ws) (c ∷ cs) l = ap (λ b. eqb c.op w && b) (spelt_short ws cs (omega arith)) ∙ and_false (eqb c.op w)
-  where
-    and_false : (b : Bool) → (b && false) ≡ false
-    and_false true = refl
-    and_false false = refl
+spelt_short (w ∷ ws) (c ∷ cs) l = ap (λ b. eqb c.op w && b) (spelt_short ws cs (omega arith)) ∙ and-false (eqb c.op w)
 
 -- the cells from a place on, none where the place is past the end
 pub rest_is : (cs : List TermCell) (at : ℕ) (r : Option (Bor (List TermCell))) (d : Bor (List TermCell) → Type 0) (x : Bor (List TermCell))

@@ -1,5 +1,6 @@
 -- What the first cells of a term tell of it.
 use Rattle.std.proofs.Common.{◌≡◌, ℕ, Bool, true, false, ◌&&◌, ◌||◌, List, [], ◌∷◌, ◌++◌, get_or, refl, ap, ◌∙◌}
+use Rattle.std.proofs.Math.Bool.{and-true}
 use Rattle.std.proofs.lemmas.List.{append_assoc}
 use Rattle.std.specs.Bool.{then_some}
 use Rattle.calculus.specs.declared.cells.TermCell.{TermCell}
@@ -11,14 +12,6 @@ use Rattle.calculus.specs.Cells.{placed_cells, blank}
 use Rattle.finder.specs.Search.{is_bit, is_qubit, is_pair_of, takes, applied, branched, opened}
 use Rattle.finder.specs.Words.{spelt, operand_word, applied_of, branched_of, opened_of}
 use Rattle.finder.specs.declared.rules.Rule.TheVariants.{Prepare, Read, Gates}
-
-and_true : (b : Bool) → (b && true) ≡ b
-and_true false = refl
-and_true true = refl
-
-and_and : (x y z : Bool) → (x && (y && z)) ≡ ((x && y) && z)
-and_and false y z = refl
-and_and true y z = refl
 
 spelt_qubit : (m : Term ℕ) (ws : List ℕ) (cs : List TermCell) → spelt (113 ∷ ws) (placed_cells m ++ cs) ≡ (is_qubit (erased m) && spelt ws cs)
 spelt_qubit (var c (bound i)) ws cs = refl
@@ -72,7 +65,7 @@ module _ (us vs : List ℕ) (f g : Running → Bool) (left : (m : Term ℕ) (cs 
   spelt_pair (let_pair c m n) cs = refl
 
 one_spelt : (m : Term ℕ) (cs : List TermCell) → spelt (113 ∷ []) (placed_cells m ++ cs) ≡ is_qubit (erased m)
-one_spelt m cs = spelt_qubit m [] cs ∙ and_true (is_qubit (erased m))
+one_spelt m cs = spelt_qubit m [] cs ∙ and-true (is_qubit (erased m))
 
 two_spelt : (m : Term ℕ) (cs : List TermCell) → spelt (112 ∷ 113 ∷ 113 ∷ []) (placed_cells m ++ cs) ≡ is_pair_of is_qubit is_qubit (erased m)
 two_spelt = spelt_pair (113 ∷ []) (113 ∷ []) is_qubit is_qubit (λ m. spelt_qubit m (113 ∷ [])) one_spelt

@@ -1,5 +1,6 @@
 -- The relation of two types at places, by what stands after their marks.
 use Rattle.std.proofs.Common.{◌≡◌, ℕ, ◌+◌, ◌<◌, Bool, true, false, cond, ◌&&◌, List, length, Some, None, Option, sym, refl, ap, ◌∙◌, ap₂}
+use Rattle.std.proofs.Math.Bool.{and-false}
 use Rattle.std.proofs.lemmas.Bool.{both_ways}
 use Rattle.calculus.specs.declared.cells.TypeCell.{TypeCell}
 use Rattle.calculus.specs.Cells.{type_cells}
@@ -13,10 +14,6 @@ use Rattle.subtyping.specs.Placing.{type_end}
 use Rattle.subtyping.specs.Relating.{Asked, related, marks_agree, related_at}
 use Rattle.subtyping.proofs.Places.{Joins, arrow_here, pair_here, stands, Strips, strips}
 use Rattle.subtyping.proofs.Related.{related_marked, core_bare, related_arrows, related_pairs, unlike, unmarked, alike_leaves}
-
-and_false : (v : Bool) → (v && false) ≡ false
-and_false true = refl
-and_false false = refl
 
 cond_and : {A : Type 0} (v w : Bool) (s n : A) → cond (v && w) s n ≡ cond v (cond w s n) n
 cond_and true w s n = refl
@@ -86,7 +83,7 @@ module _ (r : Asked) (a b : TypeAt) (u v : ℕ × TypeAt) (ha : Stripped a u) (h
   module _ (k l : ℕ) (ka : k ≡ kind_of (meant u.1)) (kb : l ≡ kind_of (meant v.1)) where
     pub kinds_differ : (k ≡ l → ⊥) → related_at r a b ≡ None
     kinds_differ n =
-        not_related (by_cores ∙ ap (λ z. marks_agree r u.0 v.0 && z) (unlike r (meant u.1) (meant v.1) no_marks (λ e. n (ka ∙ e ∙ sym kb))) ∙ and_false _)
+        not_related (by_cores ∙ ap (λ z. marks_agree r u.0 v.0 && z) (unlike r (meant u.1) (meant v.1) no_marks (λ e. n (ka ∙ e ∙ sym kb))) ∙ and-false _)
 
     module _ (m : true ≡ marks_agree r u.0 v.0) (alike : k ≡ l) where
       with_marks : related r (meant a) (meant b) ≡ related r (meant u.1) (meant v.1)
