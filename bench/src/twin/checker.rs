@@ -139,7 +139,7 @@ pub fn judge(program: &Program, at: usize, scope: &mut Scope) -> Result<Used, Ch
         'a' | 'p' => {
             let left = judge(program, at + 1, scope)?;
             let right = judge(program, second, scope)?;
-            apart(types, scope, &left, &right, at)
+            apart(types, scope, left, right, at)
         }
         'd' => {
             let pair = take_apart(types, program.claim(at + 1));
@@ -151,13 +151,13 @@ pub fn judge(program: &Program, at: usize, scope: &mut Scope) -> Result<Used, Ch
                 Some(pair.second_marked()),
                 scope,
             )?;
-            apart(types, scope, &given, &body, at)
+            apart(types, scope, given, body, at)
         }
         'i' => {
             let condition = judge(program, at + 1, scope)?;
             let then = judge(program, second, scope)?;
             let other = judge(program, program.past(second), scope)?;
-            apart(types, scope, &condition, &either(&then, &other), at)
+            apart(types, scope, condition, either(then, other), at)
         }
         _ => Ok(none()),
     }
@@ -167,11 +167,11 @@ pub fn judge(program: &Program, at: usize, scope: &mut Scope) -> Result<Used, Ch
 pub fn apart(
     types: &[TypeCell],
     scope: &Scope,
-    left: &Used,
-    right: &Used,
+    left: Used,
+    right: Used,
     at: usize,
 ) -> Result<Used, CheckFault> {
-    if !is_clear(types, scope, &shared(left, right)) {
+    if !is_clear(types, scope, shared(left, right)) {
         return Err(CheckFault::UsedTwice(at));
     }
     Ok(either(left, right))
@@ -185,7 +185,7 @@ pub fn uncaptured(
     marks: usize,
     at: usize,
 ) -> Result<Used, CheckFault> {
-    if marks > 0 && !is_clear(types, scope, &used) {
+    if marks > 0 && !is_clear(types, scope, used) {
         return Err(CheckFault::Captures(at));
     }
     Ok(used)
@@ -541,9 +541,9 @@ fn is_duplicable(types: &[TypeCell], binder: Marked) -> bool {
 }
 
 /// Whether each binder in scope that is in the set has a duplicable type.
-pub fn is_clear(types: &[TypeCell], scope: &Scope, used: &Used) -> bool {
+pub fn is_clear(types: &[TypeCell], scope: &Scope, used: Used) -> bool {
     for level in 0..scope.depth.min(MOST_BINDERS) {
-        if used.levels[level] && !is_duplicable(types, scope.binders[level]) {
+        if has(used, level) && !is_duplicable(types, scope.binders[level]) {
             return false;
         }
     }
@@ -588,40 +588,37 @@ pub fn test_tables(types: &[TypeCell], terms: &[TermCell]) -> Result<(), CheckFa
     Ok(())
 }
 
-/// Which levels are in the set.
+/// Which levels are in the set, a bit for each.
 #[derive(Clone, Copy)]
 pub struct Used {
-    pub levels: [bool; MOST_BINDERS],
+    pub levels: u32,
 }
 
 /// No level.
 pub fn none() -> Used {
-    Used {
-        levels: [false; MOST_BINDERS],
-    }
+    Used { levels: 0 }
 }
 
 /// One level.
 pub fn only(level: usize) -> Used {
-    let mut levels = [false; MOST_BINDERS];
-    levels[level] = true;
-    Used { levels }
+    Used { levels: 1 << level }
+}
+
+/// Whether a level is in the set.
+pub fn has(used: Used, level: usize) -> bool {
+    level < MOST_BINDERS && (used.levels >> level) & 1 == 1
 }
 
 /// The levels of one set or the other.
-pub fn either(a: &Used, b: &Used) -> Used {
-    let mut levels = [false; MOST_BINDERS];
-    for level in 0..MOST_BINDERS {
-        levels[level] = a.levels[level] || b.levels[level];
+pub fn either(a: Used, b: Used) -> Used {
+    Used {
+        levels: a.levels | b.levels,
     }
-    Used { levels }
 }
 
 /// The levels of both sets.
-pub fn shared(a: &Used, b: &Used) -> Used {
-    let mut levels = [false; MOST_BINDERS];
-    for level in 0..MOST_BINDERS {
-        levels[level] = a.levels[level] && b.levels[level];
+pub fn shared(a: Used, b: Used) -> Used {
+    Used {
+        levels: a.levels & b.levels,
     }
-    Used { levels }
 }

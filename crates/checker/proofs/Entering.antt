@@ -18,7 +18,7 @@ use Rattle.checker.proofs.Nodes.{not_qubit, read, argument_allowed}
 use Rattle.checker.proofs.Trees.{trees}
 use Rattle.verdict.specs.Claims.{claims_fit}
 use Rattle.verdict.specs.Faults.{Verdict, accepted, must, ◌then◌, fault}
-use Rattle.verdict.specs.Judging.{binders_of, is_stored, is_bound, entering}
+use Rattle.verdict.specs.Judging.{binders_of, is_stored, is_bound, entering, verdict_from}
 use Rattle.verdict.specs.Uses.{uses}
 use Rattle.verdict.specs.declared.faults.CheckFault.{CheckFault}
 use Rattle.verdict.specs.declared.faults.CheckReason.TheVariants.{BadCell, TooDeep, NoBinder, WrongClaim}
@@ -95,33 +95,38 @@ module _ (n : Node) (s : Scope) where
       refused_unless b (fault WrongClaim n.at)
       ∙ ap (λ b. must b (fault WrongClaim n.at) accepted) e ∙ ap (λ v. v then must (claims_fit (in_scope s) (term_of n)) (fault WrongClaim n.at) accepted) (h ∙ ap₂ (λ (c : TermCell) d. depth_tested n.at c.op c.argument d) q r) ∙ sym entering_is
 
--- a cell of none of these letters uses no binder
-leaf_unused : (f : ℕ → Ty) (op : ℕ) (l : Letter) (x c : ℕ) (ms : List (Term ℕ)) → Coded op l → (op ≡ 118 → ⊥) → (op ≡ 108 → ⊥) → (op ≡ 97 → ⊥) → (op ≡ 112 → ⊥) → (op ≡ 100 → ⊥) → (op ≡ 105 → ⊥)
-    → (i : ℕ) → uses (reclaimed f (top no_term (read_term l x c ms))) (bound i) ≡ false
-leaf_unused f op at_v x c ms (inl e) nv nl na np nd ni i = absurd (omega (arith, ap arguments_of e))
-leaf_unused f op at_v x c ms (inr e) nv nl na np nd ni i = absurd (nv e)
-leaf_unused f op at_q x c ms e nv nl na np nd ni i = refl
-leaf_unused f op at_g x c ms e nv nl na np nd ni i = refl
-leaf_unused f op at_0 x c ms e nv nl na np nd ni i = refl
-leaf_unused f op at_1 x c ms e nv nl na np nd ni i = refl
-leaf_unused f op at_m x c ms e nv nl na np nd ni i = refl
-leaf_unused f op at_n x c ms e nv nl na np nd ni i = refl
-leaf_unused f op at_s x c ms e nv nl na np nd ni i = refl
-leaf_unused f op at_l x c ms (inl e) nv nl na np nd ni i = absurd (omega (arith, ap arguments_of e))
-leaf_unused f op at_l x c ms (inr e) nv nl na np nd ni i = absurd (nl e)
-leaf_unused f op at_a x c ms (inl e) nv nl na np nd ni i = absurd (omega (arith, ap arguments_of e))
-leaf_unused f op at_a x c ms (inr e) nv nl na np nd ni i = absurd (na e)
-leaf_unused f op at_p x c ms (inl e) nv nl na np nd ni i = absurd (omega (arith, ap arguments_of e))
-leaf_unused f op at_p x c ms (inr e) nv nl na np nd ni i = absurd (np e)
-leaf_unused f op at_d x c ms (inl e) nv nl na np nd ni i = absurd (omega (arith, ap arguments_of e))
-leaf_unused f op at_d x c ms (inr e) nv nl na np nd ni i = absurd (nd e)
-leaf_unused f op at_i x c ms (inl e) nv nl na np nd ni i = absurd (omega (arith, ap arguments_of e))
-leaf_unused f op at_i x c ms (inr e) nv nl na np nd ni i = absurd (ni e)
-leaf_unused f op other x c ms e nv nl na np nd ni i = refl
+-- A term that has no parts and is no variable of a binder: it is tested on entering it alone.
+pub record Leaf (m : Term Ty) : Type 0 where
+  pub unused : (i : ℕ) → uses m (bound i) ≡ false
+  pub tested : (k : ℕ) (bs : List Ty) → verdict_from k bs m ≡ entering k bs m
 
-pub unused : (n : Node) (c : TermCell) → c ≡ cell_of n → (c.op ≡ 118 → ⊥) → (c.op ≡ 108 → ⊥) → (c.op ≡ 97 → ⊥) → (c.op ≡ 112 → ⊥) → (c.op ≡ 100 → ⊥) → (c.op ≡ 105 → ⊥) → (i : ℕ) → uses (term_of n) (bound i) ≡ false
-unused n c e nv nl na np nd ni i =
+-- a cell of none of these letters is one
+leaf_read : (f : ℕ → Ty) (op : ℕ) (l : Letter) (x c : ℕ) (ms : List (Term ℕ)) → Coded op l → (op ≡ 118 → ⊥) → (op ≡ 108 → ⊥) → (op ≡ 97 → ⊥) → (op ≡ 112 → ⊥) → (op ≡ 100 → ⊥) → (op ≡ 105 → ⊥)
+    → Leaf (reclaimed f (top no_term (read_term l x c ms)))
+leaf_read f op at_v x c ms (inl e) nv nl na np nd ni = absurd (omega (arith, ap arguments_of e))
+leaf_read f op at_v x c ms (inr e) nv nl na np nd ni = absurd (nv e)
+leaf_read f op at_q x c ms e nv nl na np nd ni = record { unused = λ i. refl; tested = λ k bs. refl }
+leaf_read f op at_g x c ms e nv nl na np nd ni = record { unused = λ i. refl; tested = λ k bs. refl }
+leaf_read f op at_0 x c ms e nv nl na np nd ni = record { unused = λ i. refl; tested = λ k bs. refl }
+leaf_read f op at_1 x c ms e nv nl na np nd ni = record { unused = λ i. refl; tested = λ k bs. refl }
+leaf_read f op at_m x c ms e nv nl na np nd ni = record { unused = λ i. refl; tested = λ k bs. refl }
+leaf_read f op at_n x c ms e nv nl na np nd ni = record { unused = λ i. refl; tested = λ k bs. refl }
+leaf_read f op at_s x c ms e nv nl na np nd ni = record { unused = λ i. refl; tested = λ k bs. refl }
+leaf_read f op at_l x c ms (inl e) nv nl na np nd ni = absurd (omega (arith, ap arguments_of e))
+leaf_read f op at_l x c ms (inr e) nv nl na np nd ni = absurd (nl e)
+leaf_read f op at_a x c ms (inl e) nv nl na np nd ni = absurd (omega (arith, ap arguments_of e))
+leaf_read f op at_a x c ms (inr e) nv nl na np nd ni = absurd (na e)
+leaf_read f op at_p x c ms (inl e) nv nl na np nd ni = absurd (omega (arith, ap arguments_of e))
+leaf_read f op at_p x c ms (inr e) nv nl na np nd ni = absurd (np e)
+leaf_read f op at_d x c ms (inl e) nv nl na np nd ni = absurd (omega (arith, ap arguments_of e))
+leaf_read f op at_d x c ms (inr e) nv nl na np nd ni = absurd (nd e)
+leaf_read f op at_i x c ms (inl e) nv nl na np nd ni = absurd (omega (arith, ap arguments_of e))
+leaf_read f op at_i x c ms (inr e) nv nl na np nd ni = absurd (ni e)
+leaf_read f op other x c ms e nv nl na np nd ni = record { unused = λ i. refl; tested = λ k bs. refl }
+
+pub leaf : (n : Node) (c : TermCell) → c ≡ cell_of n → (c.op ≡ 118 → ⊥) → (c.op ≡ 108 → ⊥) → (c.op ≡ 97 → ⊥) → (c.op ≡ 112 → ⊥) → (c.op ≡ 100 → ⊥) → (c.op ≡ 105 → ⊥) → Leaf (term_of n)
+leaf n c e nv nl na np nd ni =
     let f = type_at (types_of n) in
     let ms = trees (terms_of n) (n.at + 1) in
-    ap (λ m. uses (reclaimed f m) (bound i)) (read n ∙ ap (λ (c : TermCell). top no_term (read_term (letter c.op) c.argument c.claim ms)) (sym e))
-    ∙ leaf_unused f c.op (letter c.op) c.argument c.claim ms (coded c.op) nv nl na np nd ni i
+    let k = read n ∙ ap (λ (c : TermCell). top no_term (read_term (letter c.op) c.argument c.claim ms)) (sym e) in
+    subst (λ m. Leaf (reclaimed f m)) (sym k) (leaf_read f c.op (letter c.op) c.argument c.claim ms (coded c.op) nv nl na np nd ni)

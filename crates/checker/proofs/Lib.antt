@@ -4,6 +4,7 @@ pub mod Ending
 pub mod Entering
 pub mod Exact
 pub mod Fits
+mod Levels
 pub mod Nodes
 pub mod PartPlaces
 pub mod Parts

@@ -1,5 +1,5 @@
 -- The verdict on a node by the answers for its parts.
-use Rattle.std.proofs.Common.{◌≡◌, ℕ, zero, suc, ◌+◌, ◌-◌, ◌<◌, ◌≤◌, Bool, true, false, ◌||◌, T, ◌⊎◌, List, [], ◌∷◌, length, map, reverse, set, replicate, is_some, Err, Result, sym, refl, ap, ◌∙◌, subst, ap₂, inl, inr, arith, leb→le}
+use Rattle.std.proofs.Common.{◌≡◌, ℕ, zero, suc, ◌+◌, ◌-◌, ◌<◌, Bool, true, ◌||◌, T, ◌⊎◌, List, [], ◌∷◌, length, map, reverse, ◌==◌, is_some, Err, Result, sym, refl, ap, ◌∙◌, subst, ap₂, inl, inr, arith}
 use Rattle.std.proofs.lemmas.Bool.{eq-eqb, ne_eqb, both_ways}
 use Rattle.std.proofs.lemmas.Result.{err_from_is_err_and}
 use Rattle.std.specs.Result.{IsErrAnd}
@@ -8,7 +8,7 @@ use Rattle.calculus.specs.declared.cells.TermCell.{TermCell}
 use Rattle.calculus.specs.declared.cells.TypeCell.{TypeCell}
 use Rattle.calculus.specs.Reading.{type_at, term_at}
 use Rattle.calculus.specs.Stripping.{marks, first, is_tensor, left_of, right_of}
-use Rattle.calculus.specs.Terms.{Var, bound, under, Term, lam, claim_of, size}
+use Rattle.calculus.specs.Terms.{Var, bound, under, Term, var, const, star, lam, app, pair, if_then_else, let_pair, claim_of, size}
 use Rattle.calculus.specs.Types.{Ty}
 use Rattle.calculus.proofs.Reaching.{size_reclaimed}
 use Rattle.calculus.proofs.Reading.{T_true, both}
@@ -45,6 +45,17 @@ then_refused f v w e = ap (λ v. v then w) e
 goes_inside : (k : ℕ) (bs : List Ty) (m n : Term Ty) (w : Verdict) → m ≡ n → verdict_from k bs n ≡ (entering k bs n then w) → accepted ≡ entering k bs m → verdict_from k bs m ≡ w
 goes_inside k bs m n w e v h = ap (verdict_from k bs) e ∙ v ∙ then_go (entering k bs n) w (h ∙ ap (entering k bs) e)
 
+-- a node that is refused on entering it has that verdict
+pub enter_refused : (k : ℕ) (bs : List Ty) (m : Term Ty) (f : CheckFault) → Err f ≡ entering k bs m → Err f ≡ verdict_from k bs m
+enter_refused k bs (var c x) f h = h
+enter_refused k bs (const c q) f h = h
+enter_refused k bs (star c) f h = h
+enter_refused k bs (lam c m) f h = then_refused f _ _ h
+enter_refused k bs (app c m n) f h = then_refused f _ _ h
+enter_refused k bs (pair c m n) f h = then_refused f _ _ h
+enter_refused k bs (if_then_else c p m n) f h = then_refused f _ _ h
+enter_refused k bs (let_pair c m n) f h = then_refused f _ _ h
+
 -- the verdict of an answer that hands a fault on
 pub told : {A : Type 0} (f : CheckFault) (r : Result A CheckFault) → IsErrAnd r (λ e. e ≡ f) → verdict_of r ≡ Err f
 told f r h = let p = err_from_is_err_and r h in ap verdict_of (p.1 ∙ ap Err p.2)
@@ -66,8 +77,8 @@ module _ (n a b : Node) (bs cs : List Ty) (f g : Var → Bool) (t : Twofold n a 
   pub second_refused : (e : CheckFault) → accepted ≡ verdict_from a.at bs (term_of a) → Err e ≡ verdict_from b.at cs (term_of b) → Err e ≡ verdict_from n.at bs (term_of n)
   second_refused e p h = then_refused e _ (apart n.at bs f g) h ∙ sym (then_go (verdict_from a.at bs (term_of a)) _ p) ∙ sym t.verdict
 
-  pub two_shows : (u l r : Used) (d : ℕ) → d ≤ 32 → Shows l d f → Shows r d g → ((k : ℕ) → k < 32 → has u k ≡ (has l k || has r k)) → UsesOf u d (term_of n)
-  two_shows u l r d w p q e = shows_either u l r d f g (uses (term_of n)) w t.uses_is p q e
+  pub two_shows : (u l r : Used) (d : ℕ) → Shows l d f → Shows r d g → ((k : ℕ) → has u k ≡ (has l k || has r k)) → UsesOf u d (term_of n)
+  two_shows u l r d p q e = shows_either u l r d f g (uses (term_of n)) t.uses_is p q e
 
   two_done : (v : Verdict) → accepted ≡ verdict_from a.at bs (term_of a) → accepted ≡ verdict_from b.at cs (term_of b) → v ≡ apart n.at bs f g → v ≡ verdict_from n.at bs (term_of n)
   two_done v p q h = h ∙ sym (then_go (verdict_from b.at cs (term_of b)) (apart n.at bs f g) q) ∙ sym (then_go (verdict_from a.at bs (term_of a)) _ p) ∙ sym t.verdict
@@ -95,11 +106,11 @@ module _ (n a b d : Node) (bs : List Ty) (t : Threefold n a b d bs) where
   pub else_branch_refused : (e : CheckFault) → accepted ≡ verdict_from a.at bs (term_of a) → accepted ≡ verdict_from b.at bs (term_of b) → Err e ≡ verdict_from d.at bs (term_of d) → Err e ≡ verdict_from n.at bs (term_of n)
   else_branch_refused e p q h = then_refused e (verdict_from d.at bs (term_of d)) _ h ∙ sym (then_go (verdict_from b.at bs (term_of b)) _ q) ∙ sym (then_go (verdict_from a.at bs (term_of a)) _ p) ∙ sym t.verdict
 
-  pub branches_show : (u l r : Used) (e : ℕ) → e ≤ 32 → UsesOf l e (term_of b) → UsesOf r e (term_of d) → ((k : ℕ) → k < 32 → has u k ≡ (has l k || has r k)) → Shows u e (branch_uses b d)
-  branches_show u l r e w p q h = shows_either u l r e (uses (term_of b)) (uses (term_of d)) (branch_uses b d) w (λ x. refl) p q h
+  pub branches_show : (u l r : Used) (e : ℕ) → UsesOf l e (term_of b) → UsesOf r e (term_of d) → ((k : ℕ) → has u k ≡ (has l k || has r k)) → Shows u e (branch_uses b d)
+  branches_show u l r e p q h = shows_either u l r e (uses (term_of b)) (uses (term_of d)) (branch_uses b d) (λ x. refl) p q h
 
-  pub three_shows : (u l r : Used) (e : ℕ) → e ≤ 32 → UsesOf l e (term_of a) → Shows r e (branch_uses b d) → ((k : ℕ) → k < 32 → has u k ≡ (has l k || has r k)) → UsesOf u e (term_of n)
-  three_shows u l r e w p q h = shows_either u l r e (uses (term_of a)) (branch_uses b d) (uses (term_of n)) w t.uses_is p q h
+  pub three_shows : (u l r : Used) (e : ℕ) → UsesOf l e (term_of a) → Shows r e (branch_uses b d) → ((k : ℕ) → has u k ≡ (has l k || has r k)) → UsesOf u e (term_of n)
+  three_shows u l r e p q h = shows_either u l r e (uses (term_of a)) (branch_uses b d) (uses (term_of n)) t.uses_is p q h
 
   three_done : (v : Verdict) → accepted ≡ verdict_from a.at bs (term_of a) → accepted ≡ verdict_from b.at bs (term_of b) → accepted ≡ verdict_from d.at bs (term_of d) → v ≡ apart n.at bs (uses (term_of a)) (branch_uses b d) → v ≡ verdict_from n.at bs (term_of n)
   three_done v p q r h =
@@ -119,9 +130,6 @@ let_binders a u v c s t p e k = ap₂ (λ b bs. b ∷ bs) (p.right_is ∙ ap rig
 module _ (n : Node) (s : Scope) (h : accepted ≡ entering n.at (in_scope s) (term_of n)) where
   entered_here : Entered (in_scope s) (term_of n)
   entered_here = (entered n.at (in_scope s) (term_of n)).0 (sym h)
-
-  pub deep : depth s ≤ 32
-  deep = omega (arith, leb→le _ 32 entered_here.room, depth_is s)
 
   -- l
   module _ (k : (cell_of n).op ≡ 108) (m : Node) (p : PartOf n 0 m) where
@@ -144,6 +152,21 @@ module _ (n : Node) (s : Scope) (h : accepted ≡ entering n.at (in_scope s) (te
       let l = subst (Entered (in_scope s)) (lam_here n k) entered_here in
       let c = claim_of (term_near n (n.at + 1)) in
       both_ways _ (sym (function_none b x t f c ∙ ap (λ d. function_fits d c) e)) (T_true _ l.fits)
+
+  -- a fault of the first part is that of the node
+  module _ (a : Node) (p : PartOf n 0 a) (f : CheckFault) (r : Err f ≡ verdict_from a.at (in_scope s) (term_of a)) where
+    begins : (w : Verdict) → verdict_from n.at (in_scope s) (term_of n) ≡ (verdict_from (n.at + 1) (in_scope s) (term_near n (n.at + 1)) then w) → Err f ≡ verdict_from n.at (in_scope s) (term_of n)
+    begins w e = then_refused f _ w r ∙ ap₂ (λ i m. verdict_from i (in_scope s) m then w) p.same_place (part_term n 0 a p) ∙ sym e
+
+    pub left_refused : ((cell_of n).op ≡ 97) ⊎ ((cell_of n).op ≡ 112) → Err f ≡ verdict_from n.at (in_scope s) (term_of n)
+    left_refused (inl k) = begins _ (goes_inside n.at (in_scope s) _ _ _ (app_here n k) refl h)
+    left_refused (inr k) = begins _ (goes_inside n.at (in_scope s) _ _ _ (pair_here n k) refl h)
+
+    pub given_refused : (cell_of n).op ≡ 100 → Err f ≡ verdict_from n.at (in_scope s) (term_of n)
+    given_refused k = begins _ (goes_inside n.at (in_scope s) _ _ _ (let_here n k) refl h)
+
+    pub condition_refused : (cell_of n).op ≡ 105 → Err f ≡ verdict_from n.at (in_scope s) (term_of n)
+    condition_refused k = begins _ (goes_inside n.at (in_scope s) _ _ _ (if_here n k) refl h)
 
   -- the places and terms of two parts
   module _ (a b : Node) (p : PartOf n 0 a) (q : PartOf n 1 b) where
@@ -207,6 +230,9 @@ module _ (n : Node) (s : Scope) (h : accepted ≡ entering n.at (in_scope s) (te
 
   -- v
   module _ (k : (cell_of n).op ≡ 118) where
+    pub var_accepted : accepted ≡ verdict_from n.at (in_scope s) (term_of n)
+    var_accepted = h ∙ ap (entering n.at (in_scope s)) (var_here n k) ∙ sym (ap (verdict_from n.at (in_scope s)) (var_here n k))
+
     pub var_bound : (cell_of n).argument < depth s
     var_bound =
         let e = subst (Entered (in_scope s)) (var_here n k) entered_here in
@@ -217,10 +243,10 @@ module _ (n : Node) (s : Scope) (h : accepted ≡ entering n.at (in_scope s) (te
         has_place (b ∷ bs) zero t = omega arith
         has_place (b ∷ bs) (suc i) t = let r = has_place bs i t in omega arith
 
-    pub var_shows : (u : Used) → u.levels ≡ set (replicate 32 false) (depth s - 1 - (cell_of n).argument) true → UsesOf u (depth s) (term_of n)
+    pub var_shows : (u : Used) → ((k : ℕ) → has u k ≡ (k == (depth s - 1 - (cell_of n).argument))) → UsesOf u (depth s) (term_of n)
     var_shows u e =
         let x = (cell_of n).argument in
-        shows_only u (depth s) x (uses (term_of n)) deep var_bound e (ap (λ m. uses m (bound x)) (var_here n k) ∙ eq-eqb x x refl) (λ i l. ap (λ m. uses m (bound i)) (var_here n k) ∙ ne_eqb i x l)
+        shows_only u (depth s) x (uses (term_of n)) var_bound e (ap (λ m. uses m (bound x)) (var_here n k) ∙ eq-eqb x x refl) (λ i l. ap (λ m. uses m (bound i)) (var_here n k) ∙ ne_eqb i x l)
 
 -- the verdict on the term at the first place, under no binder
 pub whole_verdict : (types : List TypeCell) (terms : List TermCell) (p : Program) (n : Node) (s : Scope) (v : Verdict) → p.types.now ≡ types → p.terms.now ≡ terms → n.program.now ≡ p → n.at ≡ 0 → s.binders.items ≡ []

@@ -1,7 +1,7 @@
 -- What a set of used binders shows of a term, and the tests of such sets as the tests of terms.
-use Rattle.std.proofs.Common.{◌≡◌, ℕ, suc, ◌+◌, ◌-◌, ◌<◌, ◌≤◌, Bool, true, false, ◌&&◌, ◌||◌, not, length, get_or, set, replicate, map, sym, ap, ◌∙◌, ap₂, inl, inr, arith, get_or-set_other, get_or-set_same}
-use Rattle.std.proofs.lemmas.Bool.{cases_eq}
-use Rattle.std.proofs.lemmas.List.{get_or-replicate, length-map, length-replicate, length-reverse}
+use Rattle.std.proofs.Common.{◌≡◌, ℕ, suc, ◌+◌, ◌-◌, ◌<◌, Bool, true, false, ◌&&◌, ◌||◌, ◌==◌, not, length, map, sym, refl, ap, ◌∙◌, ap₂, inl, inr, arith}
+use Rattle.std.proofs.lemmas.Bool.{cases_eq, eq-eqb, ne_eqb}
+use Rattle.std.proofs.lemmas.List.{length-map, length-reverse}
 use Rattle.calculus.specs.Stripping.{positive}
 use Rattle.calculus.specs.Terms.{Var, bound, under}
 use Rattle.checker.specs.Scoping.{in_scope, depth, has, used_below}
@@ -17,19 +17,19 @@ use Rattle.verdict.specs.declared.faults.CheckReason.TheVariants.{UsedTwice, Cap
 abbrev pub Shows : Used → ℕ → (Var → Bool) → Type 0
 Shows u d f = (i : ℕ) → i < d → has u (d - 1 - i) ≡ f (bound i)
 
-pub shows_none : (u : Used) (d : ℕ) (f : Var → Bool) → d ≤ 32 → u.levels ≡ replicate 32 false → ((i : ℕ) → f (bound i) ≡ false) → Shows u d f
-shows_none u d f w e n i k = ap (λ ls. get_or ls (d - 1 - i) false) e ∙ get_or-replicate 32 (d - 1 - i) false false (omega arith) ∙ sym (n i)
+pub shows_none : (u : Used) (d : ℕ) (f : Var → Bool) → ((k : ℕ) → has u k ≡ false) → ((i : ℕ) → f (bound i) ≡ false) → Shows u d f
+shows_none u d f e n i k = e (d - 1 - i) ∙ sym (n i)
 
-pub shows_only : (u : Used) (d j : ℕ) (f : Var → Bool) → d ≤ 32 → j < d → u.levels ≡ set (replicate 32 false) (d - 1 - j) true → (f (bound j) ≡ true) → ((i : ℕ) → (i ≡ j → ⊥) → f (bound i) ≡ false) → Shows u d f
-shows_only u d j f w l e t n i k =
-    ap (λ ls. get_or ls (d - 1 - i) false) e
+pub shows_only : (u : Used) (d j : ℕ) (f : Var → Bool) → j < d → ((k : ℕ) → has u k ≡ (k == (d - 1 - j))) → (f (bound j) ≡ true) → ((i : ℕ) → (i ≡ j → ⊥) → f (bound i) ≡ false) → Shows u d f
+shows_only u d j f l e t n i k =
+    e (d - 1 - i)
     ∙ elim (cases_eq i j) [
-      | inl z ↦ (ap (λ i. get_or (set (replicate 32 false) (d - 1 - j) true) (d - 1 - i) false) z ∙ get_or-set_same (replicate 32 false) (d - 1 - j) true false (omega (arith, length-replicate 32 false)) ∙ sym (ap (λ i. f (bound i)) z ∙ t))
-      | inr m ↦ (let q : d - 1 - i ≡ d - 1 - j → ⊥ = λ z. m (omega arith) in get_or-set_other (replicate 32 false) (d - 1 - j) (d - 1 - i) true false q ∙ get_or-replicate 32 (d - 1 - i) false false (omega arith) ∙ sym (n i m))
+      | inl z ↦ (ap (λ i. (d - 1 - i) == (d - 1 - j)) z ∙ eq-eqb (d - 1 - j) (d - 1 - j) refl ∙ sym (ap (λ i. f (bound i)) z ∙ t))
+      | inr m ↦ (ne_eqb (d - 1 - i) (d - 1 - j) (λ z. m (omega arith)) ∙ sym (n i m))
     ]
 
-pub shows_either : (u l r : Used) (d : ℕ) (f g h : Var → Bool) → d ≤ 32 → ((x : Var) → h x ≡ (f x || g x)) → Shows l d f → Shows r d g → ((k : ℕ) → k < 32 → has u k ≡ (has l k || has r k)) → Shows u d h
-shows_either u l r d f g h w e a b c i k = c (d - 1 - i) (omega arith) ∙ ap₂ ◌||◌ (a i k) (b i k) ∙ sym (e (bound i))
+pub shows_either : (u l r : Used) (d : ℕ) (f g h : Var → Bool) → ((x : Var) → h x ≡ (f x || g x)) → Shows l d f → Shows r d g → ((k : ℕ) → has u k ≡ (has l k || has r k)) → Shows u d h
+shows_either u l r d f g h e a b c i k = c (d - 1 - i) ∙ ap₂ ◌||◌ (a i k) (b i k) ∙ sym (e (bound i))
 
 -- seen from outside a binder
 pub shows_outside : (u : Used) (d : ℕ) (f : Var → Bool) → Shows u (d + 1) f → Shows u d (λ x. f (under x))

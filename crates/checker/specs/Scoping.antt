@@ -1,5 +1,6 @@
 -- The binders in scope, in a record whose outermost level is 0, and the sets of those that are used.
-use Rattle.std.specs.Prelude.{◌≡◌, ℕ, ◌+◌, ◌-◌, ◌<◌, Bool, true, false, cond, List, length, map, reverse, ◌==◌, nat_le, nat_lt, slice_index_or}
+use Rattle.std.specs.Prelude.{◌≡◌, ℕ, ◌+◌, ◌-◌, ◌<◌, Bool, true, false, cond, List, length, map, reverse, ◌==◌, nat_le, nat_lt}
+use Rattle.std.specs.Int.{bit_at}
 use Rattle.calculus.specs.Terms.{Var, bound, held, Term}
 use Rattle.calculus.specs.Types.{Ty}
 use Rattle.checker.specs.declared.scope.Scope.{Scope}
@@ -18,7 +19,7 @@ abbrev pub depth : Scope → ℕ
 depth s = length s.binders.items
 
 abbrev pub has : Used → ℕ → Bool
-has u k = slice_index_or u.levels k false
+has u k = bit_at u.levels k == 1
 
 -- the variables of a set below d binders: the variable i is at the level d - 1 - i
 abbrev pub used_below : Used → ℕ → Var → Bool

@@ -65,20 +65,20 @@ pub fn judge<'a>(node: Node<'a>, scope: &mut Scope<'a>) -> Result<Used, CheckFau
         'a' | 'p' => {
             let left = judge(node.part(0), scope)?;
             let right = judge(node.part(1), scope)?;
-            apart(scope, &left, &right, node.at)
+            apart(scope, left, right, node.at)
         }
         'd' => {
             let pair = node.part(0);
             let (outer, inner) = pair.claim().components().unwrap();
             let given = judge(pair, scope)?;
             let body = judge_under(node.part(1), &[outer, inner], scope)?;
-            apart(scope, &given, &body, node.at)
+            apart(scope, given, body, node.at)
         }
         'i' => {
             let condition = judge(node.part(0), scope)?;
             let then = judge(node.part(1), scope)?;
             let other = judge(node.part(2), scope)?;
-            apart(scope, &condition, &then.either(&other), node.at)
+            apart(scope, condition, then.either(other), node.at)
         }
         _ => Ok(Used::none()),
     }

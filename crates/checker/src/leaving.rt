@@ -1,6 +1,6 @@
 //! The tests of the variables that the parts of a cell use, made on leaving it.
 
-ghost use Rattle.std.specs.Prelude.{◌≡◌, ℕ, ◌<◌, ◌||◌, IfOk};
+ghost use Rattle.std.specs.Prelude.{◌≡◌, ℕ, ◌||◌, IfOk};
 ghost use Rattle.checker.specs.Judging.{verdict_of};
 ghost use Rattle.checker.specs.Scoping.{depth, has, in_scope, used_below};
 ghost use Rattle.verdict.specs.Sharing.{apart, uncaptured};
@@ -10,11 +10,11 @@ use crate::used::Used;
 use verdict::{CheckFault, CheckReason};
 
 /// The binders that two parts use, where those that both use are duplicable.
-pub fn apart(scope: &Scope<'_>, left: &Used, right: &Used, at: usize) -> Result<Used, CheckFault>
-    ensures verdict { verdict_of result ≡ apart at (in_scope scope.now) (used_below left.now (depth scope.now)) (used_below right.now (depth scope.now)) }
-    ensures used { IfOk result (λ u. (k : ℕ) → k < 32 → has u k ≡ (has left.now k || has right.now k)) }
+pub fn apart(scope: &Scope<'_>, left: Used, right: Used, at: usize) -> Result<Used, CheckFault>
+    ensures verdict { verdict_of result ≡ apart at (in_scope scope.now) (used_below left (depth scope.now)) (used_below right (depth scope.now)) }
+    ensures used { IfOk result (λ u. (k : ℕ) → has u k ≡ (has left k || has right k)) }
 {
-    CheckReason::UsedTwice.refuse_if(!is_clear(scope, &left.shared(right)), at)?;
+    CheckReason::UsedTwice.refuse_if(!is_clear(scope, left.shared(right)), at)?;
     Ok(left.either(right))
 }
 
@@ -28,6 +28,6 @@ pub fn uncaptured(
     ensures verdict { verdict_of result ≡ uncaptured at (in_scope scope.now) marks (used_below used (depth scope.now)) }
     ensures used { IfOk result (λ u. u ≡ used) }
 {
-    CheckReason::Captures.refuse_if(marks > 0 && !is_clear(scope, &used), at)?;
+    CheckReason::Captures.refuse_if(marks > 0 && !is_clear(scope, used), at)?;
     Ok(used)
 }

@@ -77,12 +77,9 @@ fn is_duplicable(binder: TypeAt<'_>) -> bool
 }
 
 /// Whether each binder in scope that is in the set has a duplicable type.
-pub fn is_clear(scope: &Scope<'_>, used: &Used) -> bool
-    ensures { result ≡ all_duplicable (in_scope scope.now) (used_below used.now (depth scope.now)) }
+pub fn is_clear(scope: &Scope<'_>, used: Used) -> bool
+    ensures { result ≡ all_duplicable (in_scope scope.now) (used_below used (depth scope.now)) }
 {
-    scope
-        .binders
-        .iter()
-        .zip(&used.levels)
-        .all(|(binder, is_used)| !*is_used || is_duplicable(*binder))
+    let mut binders = scope.binders.iter().enumerate();
+    binders.all(|(level, binder)| !used.has(level) || is_duplicable(*binder))
 }

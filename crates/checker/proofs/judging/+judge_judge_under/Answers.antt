@@ -1,4 +1,4 @@
-use Rattle.std.proofs.Common.{◌≡◌, ◌+◌, ◌-◌, ◌∷◌, ◌⊎◌, false, true, replicate, slice_set, sym, ap, ◌∙◌, subst, ap₂, arith, rules, IfSome}
+use Rattle.std.proofs.Common.{◌≡◌, ◌+◌, ◌-◌, ◌∷◌, ◌⊎◌, ◌==◌, refl, sym, ap, ◌∙◌, subst, ap₂, arith, rules, IfSome}
 use Rattle.std.proofs.lemmas.Result.{IfOk-weaker}
 use Rattle.calculus.specs.Terms.{bound, under}
 use Rattle.calculus.specs.Stripping.{first, marks}
@@ -9,14 +9,22 @@ use Rattle.subtyping.specs.Parting.{Components}
 use Rattle.verdict.specs.Sharing.{uncaptured}
 use Rattle.verdict.specs.Uses.{uses}
 use Rattle.verdict.specs.Judging.{verdict_from}
-use Rattle.checker.proofs.Entering.{unused}
+use Rattle.checker.proofs.Entering.{leaf}
 use Rattle.checker.proofs.Fits.{arrow_first, arrow_marks}
 use Rattle.checker.proofs.Nodes.{letter_is}
-use Rattle.checker.proofs.Parts.{then_go, then_refused, told, verdict_in, uses_in, deep, lam_verdict, lam_uses, not_no_arrow, two_parts, let_parts, let_binders, given_pair, second_refused, two_left, two_shows, if_parts, then_branch_refused, else_branch_refused, three_left, three_shows, branches_show, var_bound, var_shows}
+use Rattle.checker.proofs.Parts.{then_go, then_refused, enter_refused, told, left_refused, given_refused, condition_refused, verdict_in, uses_in, lam_verdict, lam_uses, not_no_arrow, two_parts, let_parts, let_binders, given_pair, second_refused, two_left, two_shows, if_parts, then_branch_refused, else_branch_refused, three_left, three_shows, branches_show, var_accepted, var_bound, var_shows}
 use Rattle.checker.proofs.Showing.{shows_none, shows_outside, shows_outside_two, uncaptured_shows}
 use Rattle.checker.proofs.judging.+judge_judge_under.Goals as goal
 
+-- the tests on entering
+
+pub judge-returns-in_err-enter-clause-verdict : goal.judge-returns-in_err-enter-clause-verdict
+judge-returns-in_err-enter-clause-verdict t c = told _ _ c.from_residual.ensures.1 ∙ enter_refused _ _ (term_of c.args.node) _ c.in_err-enter.ensures
+
 -- v
+
+pub judge-returns-in-v-clause-verdict : goal.judge-returns-in-v-clause-verdict
+judge-returns-in-v-clause-verdict t c = var_accepted c.args.node c.args.scope.now c.in_ok-enter.ensures (letter_is c.cell-cell.ensures c.in-v.is)
 
 pub judge-overflow_sub-len-in-v : goal.judge-overflow_sub-len-in-v
 judge-overflow_sub-len-in-v t c =
@@ -24,7 +32,7 @@ judge-overflow_sub-len-in-v t c =
 
 pub judge-returns-in-v-clause-used : goal.judge-returns-in-v-clause-used
 judge-returns-in-v-clause-used t c =
-    var_shows c.args.node c.args.scope.now c.in_ok-enter.ensures (letter_is c.cell-cell.ensures c.in-v.is) _ (c.only.ensures ∙ ap₂ (λ d x. slice_set (replicate 32 false) (d - 1 - x) true) c.len.ensures.value (ap (λ (x : TermCell). x.argument) c.cell-cell.ensures))
+    var_shows c.args.node c.args.scope.now c.in_ok-enter.ensures (letter_is c.cell-cell.ensures c.in-v.is) _ (λ k. c.only.ensures k ∙ ap₂ (λ d x. k == (d - 1 - x)) c.len.ensures.value (ap (λ (x : TermCell). x.argument) c.cell-cell.ensures))
 
 -- l
 
@@ -61,6 +69,11 @@ judge-returns-in_ok-used-in-l t c =
 
 -- a and p
 
+pub judge-returns-in_err-left-in-a-clause-verdict : goal.judge-returns-in_err-left-in-a-clause-verdict
+judge-returns-in_err-left-in-a-clause-verdict t c =
+    told _ _ c.from_residual-in_err-left-in-a.ensures.1
+    ∙ left_refused c.args.node c.args.scope.now c.in_ok-enter.ensures _ c.part-in-a.ensures _ c.in_err-left-in-a.ensures.verdict (subst (λ (x : TermCell). (x.op ≡ 97) ⊎ (x.op ≡ 112)) c.cell-cell.ensures c.in-a.is)
+
 pub judge-returns-in_err-right-in-a-clause-verdict : goal.judge-returns-in_err-right-in-a-clause-verdict
 judge-returns-in_err-right-in-a-clause-verdict t c =
     let w = two_parts c.args.node c.args.scope.now c.in_ok-enter.ensures _ _ c.part-in-a.ensures c.part-in-a-2.ensures (subst (λ (x : TermCell). (x.op ≡ 97) ⊎ (x.op ≡ 112)) c.cell-cell.ensures c.in-a.is) in
@@ -76,7 +89,7 @@ judge-returns-in_ok-right-in-a t c =
     record {
       verdict = two_left _ _ _ c.args.scope.now c.judge-in-a.new.scope _ _ _ w left.left right.right _ kept left.ensures.used shown left.ensures.verdict
           (verdict_in c.part-in-a-2.result c.args.scope.now c.judge.new.scope _ left.ensures.kept right.ensures.verdict) c.apart.ensures.verdict;
-      used = IfOk-weaker c.apart.result _ _ (λ u e. two_shows _ _ _ _ _ _ _ w u left.left right.right (depth c.args.scope.now) (deep c.args.node c.args.scope.now c.in_ok-enter.ensures) left.ensures.used shown e) c.apart.ensures.used;
+      used = IfOk-weaker c.apart.result _ _ (λ u e. two_shows _ _ _ _ _ _ _ w u left.left right.right (depth c.args.scope.now) left.ensures.used shown e) c.apart.ensures.used;
       kept = kept;
     }
 
@@ -86,6 +99,11 @@ pub judge-unwrap-requires : goal.judge-unwrap-requires
 judge-unwrap-requires t c =
     let pair = given_pair c.args.node c.args.scope.now c.in_ok-enter.ensures (letter_is c.cell-cell.ensures c.in-d.is) _ c.part-pair.ensures c.claim-in-d.result c.claim-in-d.ensures.claimed in
     search (rules, pair, c.components.ensures.pair)
+
+pub judge-returns-in_err-given-in-d-clause-verdict : goal.judge-returns-in_err-given-in-d-clause-verdict
+judge-returns-in_err-given-in-d-clause-verdict t c =
+    told _ _ c.from_residual-in_err-given-in-d.ensures.1
+    ∙ given_refused c.args.node c.args.scope.now c.in_ok-enter.ensures _ c.part-pair.ensures _ c.in_err-given-in-d.ensures.verdict (letter_is c.cell-cell.ensures c.in-d.is)
 
 pub judge-returns-in_err-body-in-d-clause-verdict : goal.judge-returns-in_err-body-in-d-clause-verdict
 judge-returns-in_err-body-in-d-clause-verdict t c =
@@ -107,11 +125,16 @@ judge-returns-in_ok-body-in-d t c =
     record {
       verdict = two_left _ _ _ s c.judge_under-in-d.new.scope _ _ _ w given.given body.body _ kept given.ensures.used shown given.ensures.verdict
           (body.ensures.verdict ∙ ap (λ bs. verdict_from c.part-in-d.result.at bs (term_of c.part-in-d.result)) bs) c.apart-in-d.ensures.verdict;
-      used = IfOk-weaker c.apart-in-d.result _ _ (λ u e. two_shows _ _ _ _ _ _ _ w u given.given body.body (depth s) (deep c.args.node s c.in_ok-enter.ensures) given.ensures.used shown e) c.apart-in-d.ensures.used;
+      used = IfOk-weaker c.apart-in-d.result _ _ (λ u e. two_shows _ _ _ _ _ _ _ w u given.given body.body (depth s) given.ensures.used shown e) c.apart-in-d.ensures.used;
       kept = kept;
     }
 
 -- i
+
+pub judge-returns-in_err-condition-in-i-clause-verdict : goal.judge-returns-in_err-condition-in-i-clause-verdict
+judge-returns-in_err-condition-in-i-clause-verdict t c =
+    told _ _ c.from_residual-in_err-condition-in-i.ensures.1
+    ∙ condition_refused c.args.node c.args.scope.now c.in_ok-enter.ensures _ c.part-in-i.ensures _ c.in_err-condition-in-i.ensures.verdict (letter_is c.cell-cell.ensures c.in-i.is)
 
 pub judge-returns-in_err-then-in-i-clause-verdict : goal.judge-returns-in_err-then-in-i-clause-verdict
 judge-returns-in_err-then-in-i-clause-verdict t c =
@@ -137,20 +160,24 @@ judge-returns-in_ok-other-in-i t c =
     let other = c.in_ok-other-in-i in
     let kept = then.ensures.kept ∙ first.ensures.kept in
     let all_kept = other.ensures.kept ∙ kept in
-    let deep_enough = deep c.args.node s c.in_ok-enter.ensures in
     let branches =
-    branches_show _ _ _ _ _ w c.either.result then.then other.other (depth s) deep_enough
+    branches_show _ _ _ _ _ w c.either.result then.then other.other (depth s)
     (uses_in c.part-in-i-2.result s c.judge-in-i.new.scope then.then first.ensures.kept then.ensures.used) (uses_in c.part-in-i-3.result s c.judge-in-i-2.new.scope other.other kept other.ensures.used) c.either.ensures in
     record {
       verdict = three_left _ _ _ _ s c.judge-in-i-3.new.scope w first.condition c.either.result _ all_kept first.ensures.used branches first.ensures.verdict
           (verdict_in c.part-in-i-2.result s c.judge-in-i.new.scope _ first.ensures.kept then.ensures.verdict) (verdict_in c.part-in-i-3.result s c.judge-in-i-2.new.scope _ kept other.ensures.verdict) c.apart-in-i.ensures.verdict;
-      used = IfOk-weaker c.apart-in-i.result _ _ (λ u e. three_shows _ _ _ _ _ w u first.condition c.either.result (depth s) deep_enough first.ensures.used branches e) c.apart-in-i.ensures.used;
+      used = IfOk-weaker c.apart-in-i.result _ _ (λ u e. three_shows _ _ _ _ _ w u first.condition c.either.result (depth s) first.ensures.used branches e) c.apart-in-i.ensures.used;
       kept = all_kept;
     }
 
 -- a leaf
 
-pub judge-returns-in_default-clause-used : goal.judge-returns-in_default-clause-used
-judge-returns-in_default-clause-used t c =
-    let free = unused c.args.node _ c.cell-cell.ensures (λ k. omega arith) (λ k. omega arith) (λ k. grind arith) (λ k. grind arith) (λ k. omega arith) (λ k. omega arith) in
-    shows_none c.none.result (depth c.args.scope.now) (uses (term_of c.args.node)) (deep c.args.node c.args.scope.now c.in_ok-enter.ensures) c.none.ensures free
+pub judge-returns-in_default : goal.judge-returns-in_default
+judge-returns-in_default t c =
+    let l = leaf c.args.node _ c.cell-cell.ensures (λ k. omega arith) (λ k. omega arith) (λ k. grind arith) (λ k. grind arith) (λ k. omega arith) (λ k. omega arith) in
+    let s = c.args.scope.now in
+    record {
+      verdict = c.in_ok-enter.ensures ∙ sym (l.tested c.args.node.at (in_scope s));
+      used = shows_none c.none.result (depth s) (uses (term_of c.args.node)) c.none.ensures l.unused;
+      kept = refl;
+    }

@@ -1,5 +1,5 @@
-use Rattle.std.proofs.Common.{rules}
+use Rattle.checker.proofs.Levels.{in_either}
 use Rattle.checker.proofs.used.Used.either.Goals as goal
 
 pub returns : goal.returns
-returns c = λ k l. let e = c.joined.ensures k l in search (rules, e)
+returns c k = in_either c.args.self.levels c.args.other.levels k
