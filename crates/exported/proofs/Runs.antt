@@ -1,5 +1,6 @@
 -- What a run on a new tape comes to, and what is handed back of it.
 use Rattle.std.proofs.Common.{◌≡◌, ℕ, replicate, List, Ok, Err, Result, MatchResult, sym, ap, ap₂, ◌∙◌, subst}
+use Rattle.calculus.specs.Cells.{kind_cell}
 use Rattle.calculus.specs.declared.cells.TermCell.{TermCell}
 use Rattle.calculus.specs.declared.cells.TypeCell.{TypeCell}
 use Rattle.registers.specs.Journal.{Reel, tape_changes}
@@ -10,7 +11,6 @@ use Rattle.controller.specs.Running.{Standing}
 use Rattle.controller.specs.Tables.{begun_with}
 use Rattle.exported.specs.declared.answers.Verdict.{Verdict}
 use Rattle.exported.specs.Numbers.{node_of, number_of_kind, pulse_of, handed}
-use Rattle.exported.proofs.Fresh.{kind_cell}
 use Rattle.exported.specs.Runs.{LoadsAndRuns, collected, Tables, tables, tables_after, value_in, type_in, RunEnds, RunOf}
 
 -- the tables as collecting leaves them

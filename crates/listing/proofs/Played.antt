@@ -1,6 +1,6 @@
 -- A row that is played on a new tape, and a text that is read into new tables.
 use Rattle.std.proofs.Common.{◌≡◌, ℕ, List, [], ◌∷◌, length, get_or, replicate, None, Ok, Err, IfOk, Option, Result, ap, ap₂, subst, ◌∙◌, arith}
-use Rattle.calculus.specs.Cells.{blank}
+use Rattle.calculus.specs.Cells.{blank, kind_cell}
 use Rattle.calculus.specs.declared.cells.TermCell.{TermCell}
 use Rattle.calculus.specs.declared.cells.TypeCell.{TypeCell}
 use Rattle.registers.specs.Journal.{Reel, new_tape, tape_changes}
@@ -15,18 +15,6 @@ use Rattle.player.specs.Turns.{Rooms, Reply, rooms}
 use Rattle.player.specs.declared.turns.Turn.{Turn}
 use Rattle.listing.specs.declared.shots.Shot.{Shot}
 use Rattle.listing.specs.Playing.{alternating, run_made, cells_collected, IsMade, Tells, ReadAndPlayed, TextPlayed}
-
-abbrev pub kind_cell : ℕ → TypeCell
-kind_cell n = record { kind = n }
-
-abbrev op_cell : ℕ → ℕ → ℕ → TermCell
-op_cell op argument claim = record { op = op; argument = argument; claim = claim }
-
-pub new_kind : (t : TypeCell) → t.kind ≡ 0 → t ≡ kind_cell 0
-new_kind t e = ap (λ n. kind_cell n) e
-
-pub new_cell : (t : TermCell) → (t.op ≡ 0) × ((t.argument ≡ 0) × (t.claim ≡ 0)) → t ≡ blank
-new_cell t (e, (f, g)) = ap (λ n. op_cell n t.argument t.claim) e ∙ ap (λ n. op_cell 0 n t.claim) f ∙ ap (λ n. op_cell 0 0 n) g
 
 -- a table of new cells
 pub new_table : {X : Type 0} {xs : List X} (n : ℕ) {x y : X} → xs ≡ replicate n x → x ≡ y → xs ≡ replicate n y

@@ -10,12 +10,6 @@ use Rattle.listing.proofs.Counted.{counted_more}
 pub text_append : (xs ys : List (List (List ℕ))) → text_of (xs ++ ys) ≡ text_of xs ++ text_of ys
 text_append xs ys = flat_map-append line_text xs ys
 
-pub text_more : {X : Type 0} (f : X → List (List ℕ)) (xs : List X) (k : ℕ) (d : X) → k < length xs → text_of (map f (take (k + 1) xs)) ≡ text_of (map f (take k xs)) ++ line_text (f (get_or xs k d))
-text_more f xs k d within =
-    let t = take_more xs k d within in
-    let a = text_append (map f (take k xs)) (f (get_or xs k d) ∷ []) in
-    grind (arith, common_steps, t, a)
-
 pub pulses_more : (xs : List Entry) (k : ℕ) (d : Entry) → k < length xs → text_of (pulse_lines (take (k + 1) xs)) ≡ text_of (pulse_lines (take k xs)) ++ line_text (pulse_line k (get_or xs k d))
 pulses_more xs k d within =
     let c = counted_more xs k d within in

@@ -11,7 +11,7 @@ use Rattle.stepper.specs.declared.writing.Front.{Front}
 use Rattle.stepper.specs.Front.{Puts, PutsTrees}
 use Rattle.stepper.specs.Parts.{after}
 use Rattle.stepper.specs.Substitution.{depths, substitute_cell, substitute}
-use Rattle.stepper.specs.Writing.{overwritten, put_count, IsPut, counted}
+use Rattle.stepper.specs.Writing.{overwritten, put_count, counted, IsPut}
 use Rattle.stepper.proofs.Parts.{after_more, parted_length}
 use Rattle.stepper.proofs.Substitution.{depths_length, substitute_more}
 
@@ -27,10 +27,6 @@ sum_of n m cs e = (grind (arith, nat_tests), grind (arith, nat_tests))
 
 too_many : (n : ℕ) (cs : List TermCell) → None ≡ put_count n cs → 1024 < n + length cs
 too_many n cs e = grind (arith, nat_tests)
-
--- what is counted is the number of cells, and no more than a running term may have
-pub counted_within : (n : ℕ) (cs : List TermCell) → Some n ≡ counted cs → (n ≡ length cs) × (n ≤ 1024)
-counted_within n cs e = (grind (arith, nat_tests), grind (arith, nat_tests))
 
 -- pieces are counted one after the other
 count_more : (n m : ℕ) (xs ys : List TermCell) → Some m ≡ put_count n xs → put_count n (xs ++ ys) ≡ put_count m ys
@@ -88,6 +84,16 @@ puts_over {f = f} {xs = xs} ys p = record {
   count = sym (count_over f.len xs ys p.count);
   table = λ a b. absurd (omega (arith, too_many f.len xs p.count, length-append xs ys));
 }
+
+-- what is put first is all that is counted
+pub put_first : (cs ds : List TermCell) → cs ≡ ds → put_count 0 cs ≡ counted ds
+put_first cs ds e =
+    let n : 0 + length cs ≡ length ds = omega (arith, ap length e) in
+    ap (λ k. cond (leb k 1024) (Some k) None) n
+
+-- where there are too many, nothing is said of the table
+pub never_put : (t u cs : List TermCell) → None ≡ counted cs → IsPut t u 0 cs
+never_put t u cs e = λ a b. absurd (omega (arith, too_many 0 cs (e ∙ sym (put_first cs cs refl))))
 
 -- nothing is put by leaving the table
 pub puts_none : {A : Type 0} (x : A) (f : Front) → Puts (Some x) f f []

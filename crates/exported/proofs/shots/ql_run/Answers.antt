@@ -8,7 +8,7 @@ use Rattle.controller.specs.Shots.{Held, held, nothing_held}
 use Rattle.controller.specs.Unloading.{collect_answer}
 use Rattle.exported.specs.Numbers.{kinds_seen, cells_seen, node_of, number_of_kind, pulse_of, handed}
 use Rattle.exported.specs.Runs.{new_standing, ran_or_refused, with_count, collected, tables}
-use Rattle.exported.proofs.Fresh.{blank_cell}
+use Rattle.calculus.proofs.NewCells.{new_cell}
 use Rattle.exported.proofs.Runs.{handed_back, run_from, run_of}
 use Rattle.exported.proofs.shots.ql_run.Goals as goal
 use Rattle.exported.proofs.shots.ql_run.Goals.{in-Ok-load_and_run, in-Err-load_and_run, in-Ok-collect, in_default}
@@ -30,7 +30,7 @@ returns c =
     let cleared = c.new-controller.ensures.register ∙ ap (after_clear tape_changes) c.new.ensures in
     let start : stands (held c.new-controller.result.shot) (tape_meaning c.new-controller.result.register) (replicate 1024 c.default-work.result) ≡ new_standing c.args.outcomes.now =
     ap₂ (λ h r. stands h r (replicate 1024 c.default-work.result)) c.new-controller.ensures.held cleared
-    ∙ ap (λ t. stands nothing_held (new_standing c.args.outcomes.now).register (replicate 1024 t)) (blank_cell c.default-work.result c.default-work.ensures) in
+    ∙ ap (λ t. stands nothing_held (new_standing c.args.outcomes.now).register (replicate 1024 t)) (new_cell c.default-work.result c.default-work.ensures) in
     let wide : length end.work ≡ 1024 = search rules in
     let long : length (replicate 256 c.default-root.result) ≡ 256 = search rules in
     let count : c.collect.result ≡ collected last = c.collect.ensures.answer ∙ ap₂ (collect_answer (held end.controller.shot)) wide long in

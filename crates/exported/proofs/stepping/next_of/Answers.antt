@@ -2,7 +2,7 @@ use Rattle.std.proofs.Common.{◌≡◌, replicate, Some, Ok, ap, ◌∙◌, rul
 use Rattle.finder.specs.Finding.{answer as find_answer}
 use Rattle.stepper.specs.Next.{next_cells}
 use Rattle.stepper.specs.Writing.{counted}
-use Rattle.exported.proofs.Fresh.{blank_cell}
+use Rattle.calculus.proofs.NewCells.{new_cell}
 use Rattle.exported.proofs.Stepped.{handed_next}
 use Rattle.exported.proofs.stepping.next_of.Goals as goal
 
@@ -15,5 +15,5 @@ returns-clause-table c =
     let n = c.in_ok-count.count in
     let found : find_answer cs ≡ Ok (Some (rule, at)) = search rules in
     let count : counted (next_cells cs rule at a) ≡ Some n = search rules in
-    let blank = blank_cell c.default-work.result c.default-work.ensures in
+    let blank = new_cell c.default-work.result c.default-work.ensures in
     c.give_terms.ensures ∙ handed_next cs a c.args.to.now _ rule at _ _ _ found count (ap (replicate 1024) blank) c.next.ensures.table

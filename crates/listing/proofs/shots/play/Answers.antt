@@ -1,9 +1,10 @@
 use Rattle.std.proofs.Common.{rules, ◌≡◌, replicate, Ok, Err, take, refl, ◌∙◌}
 use Rattle.std.proofs.lemmas.List.{take_at}
-use Rattle.calculus.specs.Cells.{blank}
+use Rattle.calculus.specs.Cells.{blank, kind_cell}
+use Rattle.calculus.proofs.NewCells.{new_kind, new_cell}
 use Rattle.reader.specs.Reading.{reading}
 use Rattle.listing.specs.Playing.{CellsPlayed, TextPlayed}
-use Rattle.listing.proofs.Played.{kind_cell, new_kind, new_cell, new_table, if_ok, text_played}
+use Rattle.listing.proofs.Played.{new_table, if_ok, text_played}
 use Rattle.listing.proofs.shots.play.Goals as goal
 
 pub returns-in-Ok : goal.returns-in-Ok
