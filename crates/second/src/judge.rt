@@ -62,7 +62,7 @@ fn outside(mut used: BTreeSet<usize>, level: usize) -> BTreeSet<usize> {
 }
 
 // A function with marks may use no outer variable that may be used once only.
-fn leave_lambda(site: Site, marks: usize, outer: BTreeSet<usize>) -> Result<BTreeSet<usize>, Fault>
+fn leave_lambda(site: Site, marks: usize, outer: BTreeSet<usize>) -> Result<BTreeSet<usize>, Halt>
     ensures { marks ≡ 0 → result ≡ Ok outer }
 {
     Reason::Captures.refuse_if(marks > 0 && !outer.is_empty(), site.cell)?;
@@ -131,8 +131,9 @@ impl<'k> Judge<'k> {
     {
         Reason::TooDeep.refuse_if(self.scope.len() >= MOST_BINDERS, site.cell)?;
         let claim = self.claimed(site)?;
+        let body = self.claimed(body)?;
         match &claim.head {
-            Head::Arrow(a, b) if same(self.claimed(body)?, b) => {
+            Head::Arrow(a, b) if same(body, b) => {
                 self.scope.push(Kind::clone(a)?)?;
                 Ok(claim.marks)
             }
@@ -140,26 +141,31 @@ impl<'k> Judge<'k> {
         }
     }
 
-    // Tests a split's rule before its parts, and answers what its binders have.
-    fn open_split(&self, site: Site, pair: Site, body: Site) -> Result<(Kind, Kind), Halt>
+    // The rule of a split: its pair claims a pair, and its body what the node claims.
+    fn test_split(&self, site: Site, pair: Site, body: Site) -> Result<(), Halt>
         ensures { 32 < vec_len self.now.scope + 2 → result ≡ Err (halt TooDeep site.cell) }
     {
         Reason::TooDeep.refuse_if(self.scope.len() + 2 > MOST_BINDERS, site.cell)?;
+        let claim = self.claimed(site)?;
         let pair = self.claimed(pair)?;
+        let body = self.claimed(body)?;
         match &pair.head {
-            Head::Pair(a, b) if same(self.claimed(body)?, self.claimed(site)?) => Ok((
-                a.marked(pair.marks)?,
-                b.marked(pair.marks)?,
-            )),
+            Head::Pair(_, _) if same(body, claim) => Ok(()),
             _ => Err(Reason::WrongClaim.at(site.cell).into()),
         }
     }
 
-    // Enters the binders of a split.
-    fn enter_split(&mut self, (a, b): (Kind, Kind)) -> Result<(), AllocError> {
-        self.scope.push(a)?;
-        self.scope.push(b)?;
-        Ok(())
+    // Enters the binders of a split, which have the components of its pair under the pair's marks.
+    fn enter_split(&mut self, pair: Site) -> Result<(), Halt> {
+        let claim = self.claimed(pair)?;
+        match &claim.head {
+            Head::Pair(a, b) => {
+                self.scope.push(a.marked(claim.marks)?)?;
+                self.scope.push(b.marked(claim.marks)?)?;
+                Ok(())
+            }
+            _ => Err(Reason::WrongClaim.at(pair.cell).into()),
+        }
     }
 
     // Leaves the binders from a level on, and answers which levels below it a body used.
@@ -170,12 +176,13 @@ impl<'k> Judge<'k> {
 
     // The rule of an application: its function claims exactly what its argument and it itself claim.
     fn test_apply(&self, site: Site, function: Site, argument: Site) -> Result<(), Fault> {
+        let claim = self.claimed(site)?;
         let function = self.claimed(function)?;
+        let argument = self.claimed(argument)?;
         match &function.head {
-            Head::Arrow(a, b)
-                if function.marks == 0
-                    && same(self.claimed(argument)?, a)
-                    && same(self.claimed(site)?, b) => Ok(()),
+            Head::Arrow(a, b) if function.marks == 0 && same(argument, a) && same(claim, b) => {
+                Ok(())
+            }
             _ => Err(Reason::WrongClaim.at(site.cell)),
         }
     }
@@ -183,10 +190,13 @@ impl<'k> Judge<'k> {
     // The rule of a pair: its parts claim the components under the pair's marks.
     fn test_pair(&self, site: Site, left: Site, right: Site) -> Result<(), Halt> {
         let claim = self.claimed(site)?;
+        let left = self.claimed(left)?;
+        let right = self.claimed(right)?;
         match &claim.head {
             Head::Pair(a, b)
-                if same(self.claimed(left)?, &a.marked(claim.marks)?)
-                    && same(self.claimed(right)?, &b.marked(claim.marks)?) => Ok(()),
+                if same(left, &a.marked(claim.marks)?) && same(right, &b.marked(claim.marks)?) => {
+                Ok(())
+            }
             _ => Err(Reason::WrongClaim.at(site.cell).into()),
         }
     }
@@ -195,17 +205,33 @@ impl<'k> Judge<'k> {
     fn test_choose(&self, site: Site, condition: Site, one: Site, zero: Site) -> Result<(), Fault> {
         let claim = self.claimed(site)?;
         let condition = self.claimed(condition)?;
+        let one = self.claimed(one)?;
+        let zero = self.claimed(zero)?;
         match condition.head {
-            Head::Bit
-                if condition.marks == 0
-                    && same(self.claimed(one)?, claim)
-                    && same(self.claimed(zero)?, claim) => Ok(()),
+            Head::Bit if condition.marks == 0 && same(one, claim) && same(zero, claim) => Ok(()),
             _ => Err(Reason::WrongClaim.at(site.cell)),
+        }
+    }
+
+    // The rule of a node that is no function, but for what its parts use.
+    fn test(&self, tree: &Tree) -> Result<(), Halt> {
+        let site = tree.site;
+        match &tree.node {
+            Node::Apply(function, argument) => {
+                Ok(self.test_apply(site, function.site, argument.site)?)
+            }
+            Node::Pair(left, right) => self.test_pair(site, left.site, right.site),
+            Node::Split(pair, body) => self.test_split(site, pair.site, body.site),
+            Node::Choose(condition, one, zero) => {
+                Ok(self.test_choose(site, condition.site, one.site, zero.site)?)
+            }
+            _ => Ok(()),
         }
     }
 
     /// The levels of the variables that a tree uses and that may be used once only, or the first fault in tree order.
     pub fn judge(&mut self, tree: &Tree) -> Result<BTreeSet<usize>, Halt> {
+        self.test(tree)?;
         let site = tree.site;
         let level = self.scope.len();
         match &tree.node {
@@ -214,27 +240,19 @@ impl<'k> Judge<'k> {
             Node::Lambda(body) => {
                 let marks = self.enter_lambda(site, body.site)?;
                 let used = self.judge(body)?;
-                Ok(leave_lambda(site, marks, self.leave(level, used))?)
+                leave_lambda(site, marks, self.leave(level, used))
             }
-            Node::Apply(function, argument) => {
-                self.test_apply(site, function.site, argument.site)?;
-                let first = self.judge(function)?;
-                apart(site, first, self.judge(argument)?)
-            }
-            Node::Pair(left, right) => {
-                self.test_pair(site, left.site, right.site)?;
+            Node::Apply(left, right) | Node::Pair(left, right) => {
                 let first = self.judge(left)?;
                 apart(site, first, self.judge(right)?)
             }
             Node::Split(pair, body) => {
-                let binders = self.open_split(site, pair.site, body.site)?;
                 let first = self.judge(pair)?;
-                self.enter_split(binders)?;
+                self.enter_split(pair.site)?;
                 let used = self.judge(body)?;
                 apart(site, first, self.leave(level, used))
             }
             Node::Choose(condition, one, zero) => {
-                self.test_choose(site, condition.site, one.site, zero.site)?;
                 let first = self.judge(condition)?;
                 let one = self.judge(one)?;
                 apart(site, first, together(one, self.judge(zero)?)?)

@@ -31,11 +31,11 @@ impl fmt::Display for Ending {
 impl fmt::Display for Constant {
     fn fmt<W: fmt::Write>(&self, f: &mut fmt::Formatter<W>) -> fmt::Result {
         match self {
-            Constant::Zero => write!(f, "0 0"),
-            Constant::One => write!(f, "1 0"),
-            Constant::Measure => write!(f, "m 0"),
-            Constant::New => write!(f, "n 0"),
-            Constant::Unit => write!(f, "s 0"),
+            Constant::Zero => f.write_str("0 0"),
+            Constant::One => f.write_str("1 0"),
+            Constant::Measure => f.write_str("m 0"),
+            Constant::New => f.write_str("n 0"),
+            Constant::Unit => f.write_str("s 0"),
             Constant::Gate(gate) => write!(f, "g {gate}"),
             Constant::Qubit(handle) => write!(f, "q {handle}"),
         }
@@ -116,36 +116,39 @@ impl Listing {
         Ok(())
     }
 
+    // The cell at the root of a term below the binders in scope.
+    fn root(&mut self, term: &Term, scope: &[u32]) -> Result<(), AllocError> {
+        match term {
+            Term::Variable(x) => writeln!(self.text, "M v {}", distance(scope, *x)),
+            Term::Constant(leaf) => writeln!(self.text, "M {leaf}"),
+            Term::Lambda(_, _) => self.text.push_str("M l 0\n"),
+            Term::Apply(_, _) => self.text.push_str("M a 0\n"),
+            Term::Pair(_, _) => self.text.push_str("M p 0\n"),
+            Term::Split(_, _, _, _) => self.text.push_str("M d 0\n"),
+            Term::Choose(_, _, _) => self.text.push_str("M i 0\n"),
+        }
+    }
+
     /// The cells of a term below the binders in scope.
     pub fn value(&mut self, term: &Term, scope: &mut Vec<u32>) -> Result<(), AllocError> {
+        self.root(term, scope)?;
         let level = scope.len();
         match term {
-            Term::Variable(x) => writeln!(self.text, "M v {}", distance(scope, *x))?,
-            Term::Constant(leaf) => writeln!(self.text, "M {leaf}")?,
+            Term::Variable(_) | Term::Constant(_) => {}
             Term::Lambda(x, body) => {
-                writeln!(self.text, "M l 0")?;
                 scope.push(*x)?;
                 self.value(body, scope)?;
             }
-            Term::Apply(a, b) => {
-                writeln!(self.text, "M a 0")?;
-                self.value(a, scope)?;
-                self.value(b, scope)?;
-            }
-            Term::Pair(a, b) => {
-                writeln!(self.text, "M p 0")?;
+            Term::Apply(a, b) | Term::Pair(a, b) => {
                 self.value(a, scope)?;
                 self.value(b, scope)?;
             }
             Term::Split(x, y, pair, body) => {
-                writeln!(self.text, "M d 0")?;
                 self.value(pair, scope)?;
-                scope.push(*x)?;
-                scope.push(*y)?;
+                scope.extend_from_slice(&[*x, *y])?;
                 self.value(body, scope)?;
             }
             Term::Choose(c, one, zero) => {
-                writeln!(self.text, "M i 0")?;
                 self.value(c, scope)?;
                 self.value(one, scope)?;
                 self.value(zero, scope)?;

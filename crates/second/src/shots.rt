@@ -11,12 +11,11 @@ use crate::seeks::{SecondRule, seek};
 use crate::steps::advance;
 use crate::tables::{test_running, test_tables};
 use crate::tape::Tape;
-use crate::terms::{Names, Term, holds, name, size};
+use crate::terms::{Scope, Term, holds, size};
 use crate::texts::read;
 use calculus::{MOST_RUNNING_CELLS, TermCell, TypeCell};
 use kinds::Kind;
 use std::alloc::{AllocError, Global};
-use std::mem;
 
 /// How many steps a shot makes at most.
 pub const BUDGET: usize = 1000;
@@ -37,9 +36,7 @@ fn accept(heap: Global, types: &[TypeCell], terms: &[TermCell]) -> Result<Progra
 }
 
 fn named(heap: Global, tree: &Tree) -> Result<Box<Term>, AllocError> {
-    let mut scope = Vec::new(heap);
-    let mut names = Names::new();
-    name(heap, tree, &mut scope, &mut names)
+    Scope::new(heap).name(tree)
 }
 
 // A program that runs: its register, its term and the steps made.
@@ -61,22 +58,22 @@ impl Shot {
 
     // Makes a step, and tells whether there was one to make. A rule that calls the register never lengthens the term, so
     // the length may be tested last.
-    fn step(&mut self, heap: Global) -> Result<bool, Halt> {
-        let Some(next) = advance(heap, &self.term, &mut self.tape)? else {
+    fn step(&mut self) -> Result<bool, Halt> {
+        let last = self.term.clone()?;
+        if !advance(&mut self.term, &mut self.tape)? {
             return Ok(false);
-        };
-        Reason::TooLong.refuse_if(size(&next) > MOST_RUNNING_CELLS, 0)?;
-        let last = mem::replace(&mut self.term, next);
+        }
         let next = &self.term;
+        Reason::TooLong.refuse_if(size(next) > MOST_RUNNING_CELLS, 0)?;
         self.tape
             .let_go(|handle| holds(&last, handle) && !holds(next, handle));
         self.steps = self.steps.saturating_add(1);
         Ok(true)
     }
 
-    fn run(&mut self, heap: Global) -> Result<Ending, AllocError> {
+    fn run(&mut self) -> Result<Ending, AllocError> {
         for _ in 0..BUDGET {
-            match settled(self.step(heap))? {
+            match settled(self.step())? {
                 Ok(true) => {}
                 Ok(false) => return Ok(Ending::Value),
                 Err(fault) => return Ok(Ending::Refused(fault.reason)),
@@ -89,16 +86,30 @@ impl Shot {
     }
 }
 
-// Lists a run of an accepted program.
-fn list_run(heap: Global, program: &Program, listing: &mut Listing) -> Result<(), AllocError> {
-    let mut shot = Shot::new(heap, &program.tree)?;
-    let ending = shot.run(heap)?;
+// Lists the type of a program and the value that it ended at.
+fn list_value(
+    heap: Global,
+    program: &Program,
+    value: &Term,
+    listing: &mut Listing,
+) -> Result<(), AllocError> {
+    if let Some(kind) = program.kinds.get(program.tree.site.claim) {
+        listing.kind(kind)?;
+    }
+    listing.value(value, &mut Vec::new(heap))
+}
+
+// Lists how the run of a program ended.
+fn list_ending(
+    heap: Global,
+    program: &Program,
+    shot: &Shot,
+    ending: Ending,
+    listing: &mut Listing,
+) -> Result<(), AllocError> {
     listing.head(shot.steps, ending)?;
     if let Ending::Value = ending {
-        if let Some(kind) = program.kinds.get(program.tree.site.claim) {
-            listing.kind(kind)?;
-        }
-        listing.value(&shot.term, &mut Vec::new(heap))?;
+        list_value(heap, program, &shot.term, listing)?;
     }
     listing.journal(&shot.tape.journal)?;
     if let Ending::Refused(reason) = ending {
@@ -107,11 +118,22 @@ fn list_run(heap: Global, program: &Program, listing: &mut Listing) -> Result<()
     Ok(())
 }
 
-fn shoot(heap: Global, text: &[u8], listing: &mut Listing) -> Result<(), Halt> {
+// Lists a run of an accepted program.
+fn list_run(heap: Global, program: &Program, listing: &mut Listing) -> Result<(), AllocError> {
+    let mut shot = Shot::new(heap, &program.tree)?;
+    let ending = shot.run()?;
+    list_ending(heap, program, &shot, ending, listing)
+}
+
+// The accepted program of a text.
+fn load(heap: Global, text: &[u8]) -> Result<Program, Halt> {
     let stored = read(heap, text)?;
-    let program = accept(heap, &stored.types, &stored.terms)?;
-    list_run(heap, &program, listing)?;
-    Ok(())
+    accept(heap, &stored.types, &stored.terms)
+}
+
+fn shoot(heap: Global, text: &[u8], listing: &mut Listing) -> Result<(), Halt> {
+    let program = load(heap, text)?;
+    Ok(list_run(heap, &program, listing)?)
 }
 
 /// The listing of a stored program's shot.
@@ -133,14 +155,20 @@ pub fn second_check(
     Ok(checked.map(|_| ()).map_err(numbered))
 }
 
-fn find_rule(heap: Global, cells: &[TermCell]) -> Result<Option<(SecondRule, usize)>, Halt> {
+// The term of running cells.
+fn load_running(heap: Global, cells: &[TermCell]) -> Result<Box<Term>, Halt> {
     test_running(cells)?;
     let tree = grow(heap, cells)?;
-    let Some((cell, rule)) = seek(&*named(heap, &tree)?, 0) else {
-        return Ok(None);
-    };
-    let rule = rule.ok_or(Reason::NoRule.at(cell))?;
-    Ok(Some((rule, cell)))
+    Ok(named(heap, &tree)?)
+}
+
+fn find_rule(heap: Global, cells: &[TermCell]) -> Result<Option<(SecondRule, usize)>, Halt> {
+    let term = load_running(heap, cells)?;
+    match seek(&term, 0) {
+        Some((cell, Some(rule))) => Ok(Some((rule, cell))),
+        Some((cell, None)) => Err(Reason::NoRule.at(cell).into()),
+        None => Ok(None),
+    }
 }
 
 /// The rule of the next step of any running cells and the cell it applies at, or nothing for a value; or the number and

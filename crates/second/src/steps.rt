@@ -9,7 +9,6 @@ use crate::halt::{Halt, Reason};
 use crate::nodes::Constant;
 use crate::tape::{Operands, Tape};
 use crate::terms::{Term, put};
-use std::alloc::Global;
 
 // The handle of a term that is a qubit.
 fn qubit(term: &Term) -> Option<u16>
@@ -72,20 +71,26 @@ fn apply_constant(leaf: Constant, value: &Term, tape: &mut Tape) -> Result<Term,
 }
 
 // A value applied to a value.
-fn apply(heap: Global, function: &Term, value: &Term, tape: &mut Tape) -> Result<Term, Halt> {
+fn apply(function: &Term, value: &Term, tape: &mut Tape) -> Result<Term, Halt> {
     match function {
-        Term::Lambda(x, body) => Ok(Box::into_inner(put(heap, body, *x, value)?)),
+        Term::Lambda(x, body) => {
+            let mut body = Term::clone(body)?;
+            put(&mut body, *x, value)?;
+            Ok(body)
+        }
         Term::Constant(leaf) => apply_constant(*leaf, value, tape),
         _ => Err(Reason::NoRule.at(0).into()),
     }
 }
 
 // The body of a split whose pair is a value.
-fn split(heap: Global, x: u32, y: u32, pair: &Term, body: &Term) -> Result<Term, Halt> {
+fn split(x: u32, y: u32, pair: &Term, body: &Term) -> Result<Term, Halt> {
     match pair {
         Term::Pair(v, w) => {
-            let half = put(heap, body, x, v)?;
-            Ok(Box::into_inner(put(heap, &half, y, w)?))
+            let mut body = body.clone()?;
+            put(&mut body, x, v)?;
+            put(&mut body, y, w)?;
+            Ok(body)
         }
         _ => Err(Reason::NoRule.at(0).into()),
     }
@@ -100,36 +105,30 @@ fn choose(condition: &Term, one: &Term, zero: &Term) -> Result<Term, Halt> {
     }
 }
 
-/// What one step makes of the term, or nothing where it is a value.
-pub fn advance(heap: Global, term: &Term, tape: &mut Tape) -> Result<Option<Term>, Halt> {
+/// Makes one step in the term, and tells whether there was one to make; a value has none.
+pub fn advance(term: &mut Term, tape: &mut Tape) -> Result<bool, Halt> {
     let next = match term {
-        Term::Variable(_) | Term::Constant(_) | Term::Lambda(_, _) => return Ok(None),
+        Term::Variable(_) | Term::Constant(_) | Term::Lambda(_, _) => return Ok(false),
         Term::Apply(function, argument) => {
-            if let Some(next) = advance(heap, argument, tape)? {
-                Term::Apply(function.clone()?, Box::new(heap, next)?)
-            } else if let Some(next) = advance(heap, function, tape)? {
-                Term::Apply(Box::new(heap, next)?, argument.clone()?)
-            } else {
-                apply(heap, function, argument, tape)?
+            if advance(argument, tape)? || advance(function, tape)? {
+                return Ok(true);
             }
+            apply(function, argument, tape)?
         }
-        Term::Pair(left, right) => {
-            if let Some(next) = advance(heap, left, tape)? {
-                Term::Pair(Box::new(heap, next)?, right.clone()?)
-            } else if let Some(next) = advance(heap, right, tape)? {
-                Term::Pair(left.clone()?, Box::new(heap, next)?)
-            } else {
-                return Ok(None);
+        Term::Pair(left, right) => return Ok(advance(left, tape)? || advance(right, tape)?),
+        Term::Split(x, y, pair, body) => {
+            if advance(pair, tape)? {
+                return Ok(true);
             }
+            split(*x, *y, pair, body)?
         }
-        Term::Split(x, y, pair, body) => match advance(heap, pair, tape)? {
-            Some(next) => Term::Split(*x, *y, Box::new(heap, next)?, body.clone()?),
-            None => split(heap, *x, *y, pair, body)?,
-        },
-        Term::Choose(condition, one, zero) => match advance(heap, condition, tape)? {
-            Some(next) => Term::Choose(Box::new(heap, next)?, one.clone()?, zero.clone()?),
-            None => choose(condition, one, zero)?,
-        },
+        Term::Choose(condition, one, zero) => {
+            if advance(condition, tape)? {
+                return Ok(true);
+            }
+            choose(condition, one, zero)?
+        }
     };
-    Ok(Some(next))
+    *term = next;
+    Ok(true)
 }

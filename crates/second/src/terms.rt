@@ -18,24 +18,12 @@ pub enum Term {
     Choose(Box<Term>, Box<Term>, Box<Term>),
 }
 
-/// Names that were not given before.
+/// The names of the binders in scope, the nearest last, and the last name given.
 #[derive(Drop)]
-pub struct Names {
+pub struct Scope {
+    heap: Global,
+    names: Vec<u32>,
     last: u32,
-}
-
-impl Names {
-    /// No name given yet.
-    pub fn new() -> Names {
-        Names { last: 0 }
-    }
-
-    fn fresh(&mut self) -> u32
-        ensures { result ≡ self.new.last }
-    {
-        self.last = self.last.saturating_add(1);
-        self.last
-    }
 }
 
 // The name that a variable's count of binders leads to, if there is such a binder.
@@ -46,45 +34,52 @@ fn looked_up(scope: &[u32], index: u16) -> Option<u32>
     Some(scope[level])
 }
 
-// A name that was not given before, as the nearest in scope.
-fn bind(scope: &mut Vec<u32>, names: &mut Names) -> Result<u32, AllocError>
-    ensures { OnOk result (vec_len scope.new ≡ vec_len scope.old + 1) }
-{
-    let x = names.fresh();
-    scope.push(x)?;
-    Ok(x)
-}
-
-/// The named term of a tree below the binders in scope.
-pub fn name(
-    heap: Global,
-    tree: &Tree,
-    scope: &mut Vec<u32>,
-    names: &mut Names,
-) -> Result<Box<Term>, AllocError> {
-    let level = scope.len();
-    let named = match &tree.node {
-        Node::Variable(index) => Term::Variable(looked_up(scope, *index)),
-        Node::Constant(leaf) => Term::Constant(*leaf),
-        Node::Lambda(body) => Term::Lambda(bind(scope, names)?, name(heap, body, scope, names)?),
-        Node::Apply(a, b) => Term::Apply(
-            name(heap, a, scope, names)?,
-            name(heap, b, scope, names)?,
-        ),
-        Node::Pair(a, b) => Term::Pair(name(heap, a, scope, names)?, name(heap, b, scope, names)?),
-        Node::Split(pair, body) => {
-            let pair = name(heap, pair, scope, names)?;
-            let (x, y) = (bind(scope, names)?, bind(scope, names)?);
-            Term::Split(x, y, pair, name(heap, body, scope, names)?)
+impl Scope {
+    /// No binder, and no name given yet.
+    pub fn new(heap: Global) -> Scope {
+        Scope {
+            heap,
+            names: Vec::new(heap),
+            last: 0,
         }
-        Node::Choose(condition, one, zero) => Term::Choose(
-            name(heap, condition, scope, names)?,
-            name(heap, one, scope, names)?,
-            name(heap, zero, scope, names)?,
-        ),
-    };
-    scope.truncate(level);
-    Ok(Box::new(heap, named)?)
+    }
+
+    // A name that was not given before.
+    fn fresh(&mut self) -> u32
+        ensures last { result ≡ self.new.last }
+        ensures names { self.new.names ≡ self.old.names }
+    {
+        self.last = self.last.saturating_add(1);
+        self.last
+    }
+
+    // A name that was not given before, as the nearest in scope.
+    fn bind(&mut self) -> Result<u32, AllocError>
+        ensures { OnOk result (vec_len self.new.names ≡ vec_len self.old.names + 1) }
+    {
+        let x = self.fresh();
+        self.names.push(x)?;
+        Ok(x)
+    }
+
+    /// The named term of a tree below the binders in scope.
+    pub fn name(&mut self, tree: &Tree) -> Result<Box<Term>, AllocError> {
+        let level = self.names.len();
+        let named = match &tree.node {
+            Node::Variable(index) => Term::Variable(looked_up(&self.names, *index)),
+            Node::Constant(leaf) => Term::Constant(*leaf),
+            Node::Lambda(body) => Term::Lambda(self.bind()?, self.name(body)?),
+            Node::Apply(a, b) => Term::Apply(self.name(a)?, self.name(b)?),
+            Node::Pair(a, b) => Term::Pair(self.name(a)?, self.name(b)?),
+            Node::Split(pair, body) => {
+                let pair = self.name(pair)?;
+                Term::Split(self.bind()?, self.bind()?, pair, self.name(body)?)
+            }
+            Node::Choose(a, b, c) => Term::Choose(self.name(a)?, self.name(b)?, self.name(c)?),
+        };
+        self.names.truncate(level);
+        Ok(Box::new(self.heap, named)?)
+    }
 }
 
 /// How many cells the term has, up to the most that a number holds.
@@ -116,32 +111,37 @@ pub fn holds(term: &Term, handle: u16) -> bool {
     }
 }
 
-/// The term with a value that has no free variable for each free occurrence of a name.
-pub fn put(heap: Global, term: &Term, x: u32, value: &Term) -> Result<Box<Term>, AllocError> {
-    let put_in = match term {
-        Term::Variable(y) if *y == Some(x) => value.clone()?,
-        Term::Variable(_) | Term::Constant(_) => term.clone()?,
-        Term::Lambda(y, _) if *y == x => term.clone()?,
-        Term::Lambda(y, body) => Term::Lambda(*y, put(heap, body, x, value)?),
-        Term::Apply(a, b) => Term::Apply(put(heap, a, x, value)?, put(heap, b, x, value)?),
-        Term::Pair(a, b) => Term::Pair(put(heap, a, x, value)?, put(heap, b, x, value)?),
-        Term::Split(y, z, pair, body) if *y == x || *z == x => Term::Split(
-            *y,
-            *z,
-            put(heap, pair, x, value)?,
-            body.clone()?,
-        ),
-        Term::Split(y, z, pair, body) => Term::Split(
-            *y,
-            *z,
-            put(heap, pair, x, value)?,
-            put(heap, body, x, value)?,
-        ),
-        Term::Choose(a, b, c) => Term::Choose(
-            put(heap, a, x, value)?,
-            put(heap, b, x, value)?,
-            put(heap, c, x, value)?,
-        ),
-    };
-    Ok(Box::new(heap, put_in)?)
+/// Puts a value that has no free variable for each free occurrence of a name.
+pub fn put(term: &mut Term, x: u32, value: &Term) -> Result<(), AllocError> {
+    match term {
+        Term::Variable(y) => {
+            if *y == Some(x) {
+                *term = value.clone()?;
+            }
+            Ok(())
+        }
+        Term::Constant(_) => Ok(()),
+        Term::Lambda(y, body) => if *y == x { Ok(()) } else { put(body, x, value) },
+        Term::Apply(a, b) => {
+            put(a, x, value)?;
+            put(b, x, value)
+        }
+        Term::Pair(a, b) => {
+            put(a, x, value)?;
+            put(b, x, value)
+        }
+        Term::Split(y, z, pair, body) => {
+            put(pair, x, value)?;
+            if *y == x || *z == x {
+                Ok(())
+            } else {
+                put(body, x, value)
+            }
+        }
+        Term::Choose(a, b, c) => {
+            put(a, x, value)?;
+            put(b, x, value)?;
+            put(c, x, value)
+        }
+    }
 }

@@ -98,18 +98,26 @@ impl Reading {
         Ok(Section::Ended(types, terms))
     }
 
+    // A line between the header and the end, by its fields.
+    fn record(&mut self, fields: &[&[u8]]) -> Result<Section, Halt> {
+        match fields {
+            [b"T", kind] if matches!(self.section, Section::Types) => self.type_line(kind),
+            [b"M", op, argument, claim] => self.term_line(op, argument, claim),
+            [b"E", types, terms] => Ok(self.end_line(types, terms)?),
+            _ => Err(Reason::Line.at(self.line).into()),
+        }
+    }
+
     // Takes the next line, which ended.
     fn take_line(&mut self, heap: Global, bytes: &[u8]) -> Result<(), Halt> {
         self.line = self.line.saturating_add(1);
-        let fields = bytes.split(|b| *b == b'\t').collect::<Vec<&[u8]>>(heap)?;
-        self.section = match (self.section, fields.as_slice()) {
-            (Section::Header, _) => self.header_line(bytes)?,
-            (Section::Types, [b"T", kind]) => self.type_line(kind)?,
-            (Section::Types | Section::Terms, [b"M", op, argument, claim]) => self.term_line(
-                op, argument, claim,
-            )?,
-            (Section::Types | Section::Terms, [b"E", types, terms]) => self.end_line(types, terms)?,
-            _ => return Err(Reason::Line.at(self.line).into()),
+        self.section = match self.section {
+            Section::Header => self.header_line(bytes)?,
+            Section::Types | Section::Terms => {
+                let fields = bytes.split(|b| *b == b'\t').collect::<Vec<&[u8]>>(heap)?;
+                self.record(&fields)?
+            }
+            Section::Ended(_, _) => return Err(Reason::Line.at(self.line).into()),
         };
         Ok(())
     }
