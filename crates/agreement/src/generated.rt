@@ -67,6 +67,18 @@ pub fn compare_many(tally: &mut Tally, random: &mut Random, count: usize) -> io:
     Ok(())
 }
 
+// Compares nested binders at their limit.
+fn compare_binders(tally: &mut Tally) -> io::Result<()> {
+    let heap = tally.heap();
+    for functions in 28..36 {
+        compare_draft(tally, &binders(heap, functions, None)?)?;
+        for index in 27..36 {
+            compare_draft(tally, &binders(heap, functions, Some(index))?)?;
+        }
+    }
+    Ok(())
+}
+
 // Compares tables, terms, marks and nested binders at their limits.
 fn compare_sizes(tally: &mut Tally) -> io::Result<()> {
     let heap = tally.heap();
@@ -80,13 +92,7 @@ fn compare_sizes(tally: &mut Tally) -> io::Result<()> {
     for cells in 508..516 {
         compare_draft(tally, &term_cells(heap, cells)?)?;
     }
-    for functions in 28..36 {
-        compare_draft(tally, &binders(heap, functions, None)?)?;
-        for index in 27..36 {
-            compare_draft(tally, &binders(heap, functions, Some(index))?)?;
-        }
-    }
-    Ok(())
+    compare_binders(tally)
 }
 
 // Compares runs that meet the limits of a running term, of pulses, of live qubits and of steps.

@@ -44,6 +44,11 @@ fn tell<R: Register>(register: &mut R, ask: Ask) -> Answer {
     told.map_err(|fault| (fault.number(), fault.depth))
 }
 
+// Whether the bit of a handle is set.
+fn is_in(live: u32, handle: u8) -> bool {
+    handle < 32 && (live >> (handle % 32)) & 1 == 1
+}
+
 /// Checks which handles are live, how many, and the pulses left.
 pub fn holds<R: Register>(
     rt: &impl Abort,
@@ -52,10 +57,8 @@ pub fn holds<R: Register>(
     pulses: u64,
     row: usize,
 ) -> Result<(), Fail> {
-    for handle in 0..=255u8 {
-        let due = handle < 32 && (live >> (handle % 32)) & 1 == 1;
-        assert_eq!(rt; register.is_live(handle), due, "handle {handle}, row {row}");
-    }
+    let wrong = (0..=255u8).find(|handle| register.is_live(*handle) != is_in(live, *handle));
+    assert_eq!(rt; wrong, None, "handle, row {row}");
     assert_eq!(rt;
         register.live_count(),
         live.count_ones() as usize,

@@ -6,7 +6,6 @@ use checker::check as check_program;
 use controller::{Controller, ControllerFault, Refusal, Stop};
 use registers::Register;
 use std::alloc::{AllocError, Global};
-use std::fmt::Debug;
 use std::process::Abort;
 use std::test::Fail;
 
@@ -160,17 +159,27 @@ fn put<T: Copy>(table: &mut [T], cells: &[T]) {
     table[..len].copy_from_slice(&cells[..len]);
 }
 
-fn same<T: Copy + Debug + PartialEq + Drop>(
+fn same<T: PartialEq>(
     rt: &impl Abort,
     got: &[T],
     due: &[T],
     table: &str,
     call: usize,
 ) -> Result<(), Fail> {
-    assert_eq!(rt; got.len(), due.len(), "{table} table, call {call}");
-    for (i, (cell, want)) in got.iter().zip(due).enumerate() {
-        assert_eq!(rt; *cell, *want, "{table} table, call {call}, cell {i}");
-    }
+    assert!(rt; got == due, "{table} table, call {call}");
+    Ok(())
+}
+
+// Checks the register's live count and the pulses left.
+fn leaves<R: Register>(
+    rt: &impl Abort,
+    register: &R,
+    live: usize,
+    pulses: u64,
+    call: usize,
+) -> Result<(), Fail> {
+    assert_eq!(rt; register.live_count(), live, "live, call {call}");
+    assert_eq!(rt; register.pulses(), pulses, "pulses, call {call}");
     Ok(())
 }
 
@@ -184,15 +193,11 @@ pub fn plays<R: Register>(
     let mut tables = Tables::marked(heap)?;
     let mut due = Tables::marked(heap)?;
     for (i, Turn(call, want, front, live, pulses)) in turns.iter().enumerate() {
-        assert_eq!(rt;
-            answer(heap, controller, *call, &mut tables)?,
-            *want,
-            "call {i}"
-        );
+        let got = answer(heap, controller, *call, &mut tables)?;
+        assert_eq!(rt; got, *want, "call {i}");
         due.expect(heap, *call, *front)?;
         tables.are(rt, &due, i)?;
-        assert_eq!(rt; controller.register().live_count(), *live, "live, call {i}");
-        assert_eq!(rt; controller.register().pulses(), *pulses, "pulses, call {i}");
+        leaves(rt, controller.register(), *live, *pulses, i)?;
     }
     Ok(())
 }

@@ -1,6 +1,6 @@
 //! Programs, checked: accepted, or refused by a number at a cell.
 
-use crate::making::{kinds, terms};
+use crate::making::{add_word, kinds, terms};
 use checker::check as check_program;
 use std::alloc::{AllocError, Global};
 use std::process::Abort;
@@ -12,8 +12,10 @@ type Verdict = Option<(u16, usize)>;
 fn judged(heap: Global, types: &str, cells: &str) -> Result<Verdict, AllocError> {
     let types = kinds(heap, types)?;
     let cells = terms(heap, cells)?;
-    let refusal = check_program(types.as_slice(), cells.as_slice()).err();
-    Ok(refusal.map(|fault| (fault.number(), fault.cell)))
+    Ok(match check_program(types.as_slice(), cells.as_slice()) {
+        Ok(_) => None,
+        Err(fault) => Some((fault.number(), fault.cell)),
+    })
 }
 
 // The types of a program, its term, and the verdict.
@@ -229,6 +231,18 @@ const NESTED: &[(usize, &str, Verdict)] = &[
     (2, "l.8 v.4", Some((26, 1))),
 ];
 
+// The types and the cells of so many functions within each other.
+fn nested(heap: Global, functions: usize, body: &str) -> Result<(String, String), AllocError> {
+    let mut types = ">b".repeat(heap, functions)?;
+    types.push_str("b*bbq")?;
+    let mut cells = String::new(heap);
+    for i in 0..functions {
+        add_word(&mut cells, "l", i.wrapping_mul(2))?;
+    }
+    cells.push_str(body)?;
+    Ok((types, cells))
+}
+
 // Tables of one letter: how many type cells of a kind, how many term cells of an op.
 #[rattlefmt::skip]
 const LONG: &[(&str, usize, &str, usize, Verdict)] = &[
@@ -248,13 +262,7 @@ const LONG: &[(&str, usize, &str, usize, Verdict)] = &[
 fn depths_and_lengths(rt: HostRuntime) -> Result<(), Fail> {
     let heap = rt.alloc();
     for (functions, body, want) in NESTED {
-        let mut types = ">b".repeat(heap, *functions)?;
-        types.push_str("b*bbq")?;
-        let mut cells = String::new(heap);
-        for i in 0..*functions {
-            write!(cells, "l.{} ", i.wrapping_mul(2))?;
-        }
-        cells.push_str(*body)?;
+        let (types, cells) = nested(heap, *functions, *body)?;
         assert_eq!(rt;
             judged(heap, types.as_str(), cells.as_str())?,
             *want,

@@ -3,6 +3,7 @@
 use crate::making::terms;
 use finder::{Rule, find};
 use std::alloc::{AllocError, Global};
+use std::process::Abort;
 use std::test::Fail;
 
 // The rule that applies and its cell, nothing for a value, or the number and the cell of a refusal.
@@ -77,18 +78,29 @@ const LONG: &[(&str, usize, &str, Found)] = &[
     ("p s ", 510, "a n 1", Ok(Some((Rule::Prepare, 1020)))),
 ];
 
+fn finds(rt: &impl Abort, heap: Global, text: &str, want: Found) -> Result<(), Fail> {
+    assert_eq!(rt; look(heap, text)?, want, "{text}");
+    Ok(())
+}
+
 #[test]
 fn rules(rt: HostRuntime) -> Result<(), Fail> {
     let heap = rt.alloc();
     for text in VALUES {
-        assert_eq!(rt; look(heap, *text)?, Ok(None), "{}", *text);
+        finds(&rt, heap, *text, Ok(None))?;
     }
     for (text, rule, cell) in REDEXES {
-        assert_eq!(rt; look(heap, *text)?, Ok(Some((*rule, *cell))), "{}", *text);
+        finds(&rt, heap, *text, Ok(Some((*rule, *cell))))?;
     }
     for (text, number, cell) in REFUSED {
-        assert_eq!(rt; look(heap, *text)?, Err((*number, *cell)), "{}", *text);
+        finds(&rt, heap, *text, Err((*number, *cell)))?;
     }
+    Ok(())
+}
+
+#[test]
+fn lengths(rt: HostRuntime) -> Result<(), Fail> {
+    let heap = rt.alloc();
     for (op, times, last, want) in LONG {
         let mut text = op.repeat(heap, *times)?;
         text.push_str(*last)?;

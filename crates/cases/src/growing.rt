@@ -1,6 +1,6 @@
 //! A step to a term of exactly 1,024 cells, and one that would make more.
 
-use crate::making::{KIND_MARK, MARK, kinds, starts_with, terms};
+use crate::making::{KIND_MARK, MARK, add_word, kinds, starts_with, terms};
 use checker::check as check_program;
 use controller::Controller;
 use registers::{Level, Register};
@@ -19,18 +19,34 @@ fn long_function(heap: Global, identities: usize, claims: bool) -> Result<String
     format!(in heap; "{head}{}{last}", links.as_str())
 }
 
+// The cell of the type of the pair that stands after so many zeros.
+fn pair_at(zeros: usize) -> usize {
+    zeros.wrapping_mul(2).wrapping_add(5)
+}
+
+// The start of the term <0, <0, ..>>, with so many zeros.
+fn zeros_in_front(heap: Global, zeros: usize) -> Result<String, AllocError> {
+    let mut text = String::new(heap);
+    for i in 0..zeros {
+        add_word(&mut text, "p", pair_at(i))?;
+        text.push_str("0.3 ")?;
+    }
+    Ok(text)
+}
+
 // The types and the term of (fun f. <0, <0, .. <f, <f, f>>>>) long, with so many zeros.
 fn program(heap: Global, identities: usize, zeros: usize) -> Result<(String, String), AllocError> {
-    let mut types = String::from_str(heap, ">!>bb")?;
-    let mut text = String::from_str(heap, "a.5 l ")?;
-    for _ in 0..zeros {
-        write!(text, "p.{} 0.3 ", types.len())?;
-        types.push_str("*b")?;
-    }
-    let at = types.len();
-    types.push_str("*>bb*>bb>bb")?;
-    write!(text, "p.{at} v.2 p.{} v.2 v.2 ", at.wrapping_add(4))?;
-    text.push_str(long_function(heap, identities, true)?.as_str())?;
+    let pairs = "*b".repeat(heap, zeros)?;
+    let types = format!(in heap; ">!>bb{}*>bb*>bb>bb", pairs.as_str())?;
+    let front = zeros_in_front(heap, zeros)?;
+    let at = pair_at(zeros);
+    let long = long_function(heap, identities, true)?;
+    let text = format!(in heap;
+        "a.5 l {}p.{at} v.2 p.{} v.2 v.2 {}",
+        front.as_str(),
+        at.wrapping_add(4),
+        long.as_str()
+    )?;
     Ok((types, text))
 }
 

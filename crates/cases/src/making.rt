@@ -2,7 +2,6 @@
 
 use calculus::{TermCell, TypeCell};
 use std::alloc::{AllocError, Global};
-use std::fmt::Debug;
 use std::process::Abort;
 use std::test::Fail;
 
@@ -39,6 +38,11 @@ pub fn terms(heap: Global, text: &str) -> Result<Vec<TermCell>, AllocError> {
     text.split(' ').filter_map(cell_of).collect(heap)
 }
 
+/// Adds a word: an op and its claim.
+pub fn add_word(text: &mut String, op: &str, claim: usize) -> Result<(), AllocError> {
+    write!(text, "{op}.{claim} ")
+}
+
 /// At most so many cells of a table, from its front.
 pub fn front_of<T>(table: &mut [T], most: usize) -> &mut [T] {
     let len = most.min(table.len());
@@ -46,20 +50,15 @@ pub fn front_of<T>(table: &mut [T], most: usize) -> &mut [T] {
 }
 
 /// Checks that a table starts with the cells of `front` and has the mark in every other.
-pub fn starts_with<T: Copy + Debug + PartialEq + Drop>(
+pub fn starts_with<T: Copy + PartialEq + Drop>(
     rt: &impl Abort,
     table: &[T],
     front: &[T],
     mark: T,
     case: &str,
 ) -> Result<(), Fail> {
-    assert!(rt;
-        front.len() <= table.len(),
-        "{case}: the table is too short for the cells that are due"
-    );
-    for (i, cell) in table.iter().enumerate() {
-        let want = front.get(i).unwrap_or(&mark);
-        assert_eq!(rt; *cell, *want, "{case}: cell {i}");
-    }
+    assert!(rt; table.starts_with(front), "{case}: the cells in front");
+    let is_left = table.iter().skip(front.len()).all(|cell| *cell == mark);
+    assert!(rt; is_left, "{case}: the cells after {}", front.len());
     Ok(())
 }

@@ -2,7 +2,6 @@
 
 use crate::making::{KIND_MARK, MARK, front_of, kinds, starts_with, terms};
 use calculus::{is_allowed, kind_parts};
-use std::fmt::Debug;
 use std::process::Abort;
 use std::test::Fail;
 use trees::{Cell, copy, count, first_failing, reach};
@@ -23,35 +22,39 @@ fn copied(case: &Case, room: usize) -> Option<usize> {
     (len <= room).then_some(len)
 }
 
+// Copies the tree into the front of a marked table.
+fn copies<T: Cell + PartialEq + Drop>(
+    rt: &impl Abort,
+    cells: &[T],
+    table: &mut [T],
+    room: usize,
+    mark: T,
+    case: &Case,
+) -> Result<(), Fail> {
+    for cell in table.iter_mut() {
+        *cell = mark;
+    }
+    let want = copied(case, room);
+    let got = copy(cells, case.at, front_of(table, room));
+    assert_eq!(rt; got, want, "{}", case.text);
+    let written = want.unwrap_or(0).min(cells.len());
+    let start = case.at.min(cells.len() - written);
+    let front = &cells[start..start + written];
+    starts_with(rt, table, front, mark, case.text)
+}
+
 // Asks every question about the cells of a case, and copies the tree into every front of a table but the whole.
-fn examine<T: Cell + Debug + PartialEq + Drop, F: Fn(T) -> bool>(
+fn examine<T: Cell + PartialEq + Drop>(
     rt: &impl Abort,
     cells: &[T],
     table: &mut [T],
     mark: T,
-    passes: F,
     case: &Case,
-) -> Result<(), Fail>
-    requires { F.IsAlwaysCallable passes }
-{
+) -> Result<(), Fail> {
     assert_eq!(rt; reach(cells, case.at), case.end, "{}", case.text);
     assert_eq!(rt; count(cells), case.trees, "{}", case.text);
-    assert_eq!(rt; first_failing(cells, passes), case.failing, "{}", case.text);
     for room in 0..table.len() {
-        for cell in table.iter_mut() {
-            *cell = mark;
-        }
-        let want = copied(case, room);
-        assert_eq!(rt;
-            copy(cells, case.at, front_of(table, room)),
-            want,
-            "{}",
-            case.text
-        );
-        let written = want.unwrap_or(0).min(cells.len());
-        let start = case.at.min(cells.len() - written);
-        let front = &cells[start..start + written];
-        starts_with(rt, table, front, mark, case.text)?;
+        copies(rt, cells, table, room, mark, case)?;
     }
     Ok(())
 }
@@ -80,14 +83,9 @@ const TYPES: &[Case] = &[
 fn trees_of_types(rt: HostRuntime) -> Result<(), Fail> {
     for case in TYPES {
         let cells = kinds(rt.alloc(), case.text)?;
-        examine(
-            &rt,
-            cells.as_slice(),
-            &mut [KIND_MARK; 12],
-            KIND_MARK,
-            |cell| kind_parts(cell.kind).is_some(),
-            case,
-        )?;
+        let failing = first_failing(cells.as_slice(), |cell| kind_parts(cell.kind).is_some());
+        assert_eq!(rt; failing, case.failing, "{}", case.text);
+        examine(&rt, cells.as_slice(), &mut [KIND_MARK; 12], KIND_MARK, case)?;
     }
     Ok(())
 }
@@ -116,14 +114,9 @@ const TERMS: &[Case] = &[
 fn trees_of_terms(rt: HostRuntime) -> Result<(), Fail> {
     for case in TERMS {
         let cells = terms(rt.alloc(), case.text)?;
-        examine(
-            &rt,
-            cells.as_slice(),
-            &mut [MARK; 12],
-            MARK,
-            |cell| is_allowed(cell),
-            case,
-        )?;
+        let failing = first_failing(cells.as_slice(), |cell| is_allowed(cell));
+        assert_eq!(rt; failing, case.failing, "{}", case.text);
+        examine(&rt, cells.as_slice(), &mut [MARK; 12], MARK, case)?;
     }
     Ok(())
 }

@@ -164,16 +164,12 @@ const NUMBERS: &[(&str, bool)] = &[
 fn number_fields(rt: HostRuntime) -> Result<(), Fail> {
     let heap = rt.alloc();
     for (number, stands) in NUMBERS {
-        let fields = [
-            format!(in heap; "{number}\t0")?,
-            format!(in heap; "0\t{number}")?,
-            format!(in heap; "{number}\t{number}")?,
-        ];
-        for field in &fields {
-            let op = format!(in heap; "QL\t1\nT\tu\nM\tv\t{field}\n")?;
-            let left = match field.as_str().split_once('\t') {
-                Some((argument, claim)) if *stands => format!(in heap; "v{argument}.{claim}")?,
-                _ => String::new(heap),
+        for (argument, claim) in [(*number, "0"), ("0", *number), (*number, *number)] {
+            let op = format!(in heap; "QL\t1\nT\tu\nM\tv\t{argument}\t{claim}\n")?;
+            let left = if *stands {
+                format!(in heap; "v{argument}.{claim}")?
+            } else {
+                String::new(heap)
             };
             let want = if *stands { Err((15, 4)) } else { Err((13, 3)) };
             reads(
@@ -181,7 +177,7 @@ fn number_fields(rt: HostRuntime) -> Result<(), Fail> {
                 heap,
                 &Case(op.as_str(), (9, 9), want, "u", left.as_str()),
             )?;
-            let counts = format!(in heap; "QL\t1\nT\tu\nE\t{field}\n")?;
+            let counts = format!(in heap; "QL\t1\nT\tu\nE\t{argument}\t{claim}\n")?;
             let want = Err((if *stands { 15 } else { 13 }, 3));
             reads(&rt, heap, &Case(counts.as_str(), (9, 9), want, "u", ""))?;
         }

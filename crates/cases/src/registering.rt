@@ -159,23 +159,34 @@ const TRUTH: &[(Gate, &[u8], [u8; 8])] = &[
     (Gate::Toffoli, &[2, 0, 1], [0, 1, 2, 3, 4, 7, 6, 5]),
 ];
 
+// Prepares the three bits of a number, handle 0 lowest.
+fn prepared(rt: &impl Abort, number: usize) -> Result<Level, Fail> {
+    let mut level = Level::new(3, 100);
+    for place in 0..3u8 {
+        assert_eq!(rt; level.prepare((number >> place) & 1 == 1)?, place);
+    }
+    Ok(level)
+}
+
+// Makes a gate on the three bits of a number, and reads the bits of another.
+fn maps(rt: &impl Abort, gate: Gate, on: &[u8], input: usize, output: u8) -> Result<(), Fail> {
+    let mut level = prepared(rt, input)?;
+    assert!(rt; level.makes(gate));
+    level.gate(gate, on)?;
+    for place in 0..3u8 {
+        let due = (output >> place) & 1 == 1;
+        let read = (level.read(place)?, level.read(place)?);
+        assert_eq!(rt; read, (due, due), "{gate:?} of {input}, read twice");
+    }
+    holds(rt, &level, 0b111, 90, input)
+}
+
 #[test]
 fn level(rt: HostRuntime) -> Result<(), Fail> {
     asks(&rt, &mut Level::new(3, 8), LEVEL)?;
     for (gate, on, outputs) in TRUTH {
         for (input, output) in outputs.iter().enumerate() {
-            let mut level = Level::new(3, 100);
-            assert!(rt; level.makes(*gate));
-            for place in 0..3u8 {
-                assert_eq!(rt; level.prepare((input >> place) & 1 == 1)?, place);
-            }
-            level.gate(*gate, *on)?;
-            for place in 0..3u8 {
-                let due = (*output >> place) & 1 == 1;
-                assert_eq!(rt; level.read(place)?, due, "{gate:?} of {input}");
-                assert_eq!(rt; level.read(place)?, due, "read again");
-            }
-            holds(&rt, &level, 0b111, 90, input)?;
+            maps(&rt, *gate, *on, input, *output)?;
         }
     }
     let level = Level::new(3, 1);

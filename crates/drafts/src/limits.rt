@@ -63,14 +63,21 @@ pub(crate) fn padded(draft: &mut Draft, cells: usize) -> Result<(), AllocError>
     }
 }
 
+// A bit, with a type table of these letters.
+fn bit(heap: Global, op: char, kinds: &str) -> Result<Draft, AllocError>
+    ensures { IfOk result (λ draft. vec_len draft.terms ≡ 1) }
+{
+    let mut draft = Draft::new(heap);
+    draft.kinds(kinds)?;
+    draft.cell(op, 0, 0)?;
+    Ok(draft)
+}
+
 /// A bit, with a type table of so many cells.
 pub fn type_cells(heap: Global, cells: usize) -> Result<Draft, AllocError>
     ensures { IfOk result (λ draft. vec_len draft.terms ≡ 1) }
 {
-    let mut draft = Draft::new(heap);
-    draft.kinds(&"b".repeat(heap, cells)?)?;
-    draft.cell('0', 0, 0)?;
-    Ok(draft)
+    bit(heap, '0', &"b".repeat(heap, cells)?)
 }
 
 /// A bit of so many term cells: of 1, 4, 5, 7, 8 or more than 9.
@@ -86,11 +93,9 @@ pub fn term_cells(heap: Global, cells: usize) -> Result<Draft, AllocError>
 pub fn marks(heap: Global, marks: usize) -> Result<Draft, AllocError>
     ensures { IfOk result (λ draft. vec_len draft.terms ≡ 1) }
 {
-    let mut draft = Draft::new(heap);
-    draft.kinds(&"!".repeat(heap, marks)?)?;
-    draft.kinds("b")?;
-    draft.cell('1', 0, 0)?;
-    Ok(draft)
+    let mut kinds = "!".repeat(heap, marks)?;
+    kinds.push('b')?;
+    bit(heap, '1', &kinds)
 }
 
 /// So many functions, one in the other, around a variable that counts outward, or around a split.

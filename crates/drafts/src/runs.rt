@@ -70,12 +70,9 @@ pub fn pulses(heap: Global, pulses: usize) -> Result<Draft, AllocError> {
     Ok(draft)
 }
 
-/// Held qubits in pairs, and a bit that so many times is made a qubit and read: handles go round past the held ones.
-pub fn rounds(heap: Global, held: u8, times: usize) -> Result<Draft, AllocError> {
-    let mut draft = Draft::new(heap);
+// So many qubits, each the first of a pair with what follows.
+fn hold(draft: &mut Draft, held: u8) -> Result<(), AllocError> {
     let bit = 2 * held as u16;
-    draft.kinds(&"*q".repeat(heap, held.into())?)?;
-    draft.kinds("b>bq>qb>bbq")?;
     for i in 0..held {
         draft.cells(&[
             ('p', 0, 2 * i as u16),
@@ -84,16 +81,33 @@ pub fn rounds(heap: Global, held: u8, times: usize) -> Result<Draft, AllocError>
             ('1', 0, bit),
         ])?;
     }
+    Ok(())
+}
+
+// A bit that so many times is made a qubit and read, behind the types of held qubits.
+fn reread(draft: &mut Draft, held: u8, times: usize) -> Result<(), AllocError> {
+    let bit = 2 * held as u16;
     for _ in 0..times {
         draft.cells(&[
             ('a', 0, bit),
             ('l', 0, bit + 7),
             ('a', 0, bit),
             ('m', 0, bit + 4),
+            ('a', 0, bit + 10),
+            ('n', 0, bit + 1),
+            ('v', 0, bit),
         ])?;
-        draft.cells(&[('a', 0, bit + 10), ('n', 0, bit + 1), ('v', 0, bit)])?;
     }
-    draft.cell('0', 0, bit)?;
+    draft.cell('0', 0, bit)
+}
+
+/// Held qubits in pairs, and a bit that so many times is made a qubit and read: handles go round past the held ones.
+pub fn rounds(heap: Global, held: u8, times: usize) -> Result<Draft, AllocError> {
+    let mut draft = Draft::new(heap);
+    draft.kinds(&"*q".repeat(heap, held.into())?)?;
+    draft.kinds("b>bq>qb>bbq")?;
+    hold(&mut draft, held)?;
+    reread(&mut draft, held, times)?;
     Ok(draft)
 }
 
@@ -134,11 +148,11 @@ pub fn turns(heap: Global, depth: usize) -> Result<Draft, AllocError> {
     for _ in 1..depth {
         draft.stored("a 0 7, v 0 19")?;
     }
-    draft.stored("l 0 7, i 0 0, v 0 1, 0 0 0, 1 0 0, 0 0 0")?;
-    draft.stored("l 0 18, l 0 7, d 0 0, p 0 13")?;
-    draft.stored("i 0 0, v 0 1, 0 0 0, 1 0 0, v 0 0, i 0 0, v 0 1")?;
-    draft.stored("a 0 0, v 3 2, a 0 0, v 3 2, v 1 0")?;
-    draft.stored("a 0 0, v 3 2, v 1 0")?;
+    draft.stored(
+        "l 0 7, i 0 0, v 0 1, 0 0 0, 1 0 0, 0 0 0, l 0 18, l 0 7, d 0 0, p 0 13, \
+         i 0 0, v 0 1, 0 0 0, 1 0 0, v 0 0, i 0 0, v 0 1, \
+         a 0 0, v 3 2, a 0 0, v 3 2, v 1 0, a 0 0, v 3 2, v 1 0",
+    )?;
     Ok(draft)
 }
 
@@ -153,11 +167,10 @@ pub fn entangled(heap: Global, gate: Gate) -> Result<Draft, AllocError> {
         ('g', gate.into(), 13),
         ('p', 0, 10),
     ])?;
-    draft.stored("a 0 11, g 0 20, a 0 11, n 0 23, 0 0 1")?;
-    draft.stored("a 0 11, n 0 23, 1 0 1")?;
-    draft.stored("p 0 3, l 0 4, a 0 1, m 0 26, v 2 11")?;
-    draft.stored("l 0 4, a 0 1, m 0 26, v 1 11")?;
-    draft.stored("p 0 0, a 0 1, v 1 4, s 0 29")?;
-    draft.stored("a 0 1, v 0 4, s 0 29")?;
+    draft.stored(
+        "a 0 11, g 0 20, a 0 11, n 0 23, 0 0 1, a 0 11, n 0 23, 1 0 1, \
+         p 0 3, l 0 4, a 0 1, m 0 26, v 2 11, l 0 4, a 0 1, m 0 26, v 1 11, \
+         p 0 0, a 0 1, v 1 4, s 0 29, a 0 1, v 0 4, s 0 29",
+    )?;
     Ok(draft)
 }

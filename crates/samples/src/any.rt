@@ -92,19 +92,23 @@ pub fn any_kind(
         3..=5 => Ok(Head::Bit.marked(1)),
         _ if depth == 0 => Ok(Head::Bit.marked(0)),
         14 if holds_qubits => Kind::qubits(heap, if random.chance(50) { 2 } else { 3 }),
-        6..=9 => {
-            let a = any_kind(random, heap, depth - 1, true)?;
-            Kind::arrow(heap, marks, a, any_kind(random, heap, depth - 1, true)?)
-        }
         _ => {
-            let holds_qubits = holds_qubits && marks == 0;
+            let is_arrow = choice < 10;
+            let holds_qubits = is_arrow || holds_qubits && marks == 0;
             let a = any_kind(random, heap, depth - 1, holds_qubits)?;
-            Kind::pair(
-                heap,
-                marks,
-                a,
-                any_kind(random, heap, depth - 1, holds_qubits)?,
-            )
+            let b = any_kind(random, heap, depth - 1, holds_qubits)?;
+            if is_arrow {
+                Kind::arrow(heap, marks, a, b)
+            } else {
+                Kind::pair(heap, marks, a, b)
+            }
         }
     }
+}
+
+/// A type of pairs with closed values, whose components are one level deep at most.
+pub fn any_pair(random: &mut Random, heap: Global) -> Result<Kind, AllocError> {
+    let marks = usize::from(random.chance(25));
+    let left = any_kind(random, heap, 1, marks == 0)?;
+    Kind::pair(heap, marks, left, any_kind(random, heap, 1, marks == 0)?)
 }

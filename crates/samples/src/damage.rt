@@ -108,11 +108,7 @@ fn change_number(heap: Global, random: &mut Random, text: &[u8]) -> Result<Vec<u
     let digit = rest.iter().position(|b| b.is_ascii_digit()).unwrap_or(0);
     let (before, after) = rest.split_at(digit);
     let mores: [&[u8]; 6] = [b"0", b"6553", b"99999", b"\t", b"-", b"1"];
-    let mut all = Vec::from_slice(heap, skipped)?;
-    all.extend_from_slice(before)?;
-    all.extend_from_slice(random.pick(&mores))?;
-    all.extend_from_slice(after)?;
-    Ok(all)
+    [skipped, before, random.pick(&mores), after].concat(heap)
 }
 
 // One byte changed, left out or put in, or the text cut there.
@@ -137,11 +133,7 @@ fn change_byte(heap: Global, random: &mut Random, text: &[u8]) -> Result<Vec<u8>
 // Another line 1 in place of the four bytes that it is.
 fn change_header(heap: Global, random: &mut Random, text: &[u8]) -> Result<Vec<u8>, AllocError> {
     let headers: [&[u8]; 5] = [b"QL\t2", b"QL 1", b"QL\t1\r", b"", b"ql\t1"];
-    let mut all = Vec::from_slice(heap, random.pick(&headers))?;
-    if let Some(rest) = text.get(4..) {
-        all.extend_from_slice(rest)?;
-    }
-    Ok(all)
+    [random.pick(&headers), text.get(4..).unwrap_or(&[])].concat(heap)
 }
 
 /// Changes one thing in a program's text.

@@ -1,7 +1,7 @@
 //! The terms that make a value of a type from its parts, or a qubit by a constant.
 
 use crate::any::{FUNCTIONS, Function, GATE_COUNT};
-use crate::makers::{Maker, Task};
+use crate::makers::{Maker, Task, arrow};
 use kinds::{Head, Kind, is_below};
 use std::alloc::AllocError;
 
@@ -36,8 +36,7 @@ impl<'r> Maker<'r> {
         }
         self.tasks.push(Task::Leave(self.scope.len()))?;
         self.due(body)?;
-        self.scope.push(argument.clone()?)?;
-        Ok(())
+        self.enter(argument, 0)
     }
 
     // A function that is a constant, claimed without marks, applied to an argument of a type.
@@ -48,7 +47,7 @@ impl<'r> Maker<'r> {
         kind: &Kind,
     ) -> Result<(), AllocError> {
         self.emit('a', 0, kind)?;
-        let claim = Kind::arrow(self.heap, 0, argument.clone()?, kind.clone()?)?;
+        let claim = arrow(self.heap, argument, kind)?;
         let (op, number) = function.cell();
         self.emit(op, number, &claim)?;
         self.due(argument)
@@ -57,8 +56,8 @@ impl<'r> Maker<'r> {
     // A pair of two components of types, under the marks of the pair.
     fn pair_value(&mut self, kind: &Kind, left: &Kind, right: &Kind) -> Result<(), AllocError> {
         self.emit('p', 0, kind)?;
-        self.due(&right.marked(kind.marks)?)?;
-        self.due(&left.marked(kind.marks)?)
+        self.due_marked(right, kind.marks)?;
+        self.due_marked(left, kind.marks)
     }
 
     // Emits the root of a term by what its type is, and leaves its parts to be made.

@@ -2,7 +2,7 @@
 
 ghost use Rattle.std.specs.Prelude.{◌≡◌, ◌+◌, vec_len, OnOk};
 
-use crate::any::any_kind;
+use crate::any::{any_kind, any_pair};
 use crate::random::Random;
 use drafts::Draft;
 use kinds::{Head, Kind, is_below, same};
@@ -15,8 +15,8 @@ use std::mem;
 pub(crate) enum Task {
     // A term of a type, with so much fuel for its parts.
     Make(Kind, u32),
-    // Two binders of a split.
-    Bind(Kind, Kind),
+    // The binders of a split of a pair type.
+    Bind(Kind),
     // The end of binders, down to so many.
     Leave(usize),
     // The variables that were spent before a function with marks.
@@ -46,6 +46,11 @@ pub(crate) struct Maker<'r> {
     pub(crate) is_careless: bool,
 }
 
+// The type of functions from one type to another, without marks.
+pub(crate) fn arrow(heap: Global, from: &Kind, to: &Kind) -> Result<Kind, AllocError> {
+    Kind::arrow(heap, 0, from.clone()?, to.clone()?)
+}
+
 impl<'r> Maker<'r> {
     pub(crate) fn emit(&mut self, op: char, argument: u16, kind: &Kind) -> Result<(), AllocError> {
         let claim = if self.random.chance(4) && self.draft.types.len() < 150 {
@@ -60,6 +65,17 @@ impl<'r> Maker<'r> {
         ensures { OnOk result (vec_len self.new.tasks ≡ vec_len self.old.tasks + 1) }
     {
         self.tasks.push(Task::Make(kind.clone()?, self.fuel))?;
+        Ok(())
+    }
+
+    // A term of a type under more marks is due.
+    pub(crate) fn due_marked(&mut self, kind: &Kind, more: usize) -> Result<(), AllocError> {
+        self.due(&kind.marked(more)?)
+    }
+
+    // Brings a variable into scope, of a type under more marks.
+    pub(crate) fn enter(&mut self, own: &Kind, more: usize) -> Result<(), AllocError> {
+        self.scope.push(own.marked(more)?)?;
         Ok(())
     }
 
@@ -97,24 +113,30 @@ impl<'r> Maker<'r> {
         any_kind(self.random, self.heap, u32::from(is_deeper), true)
     }
 
-    fn apply(&mut self, kind: &Kind) -> Result<(), AllocError> {
-        let argument = self.argument(kind)?;
-        let function = Kind::arrow(self.heap, 0, argument.clone()?, kind.clone()?)?;
+    // A function applied to an argument of a type.
+    fn apply(&mut self, kind: &Kind, argument: &Kind) -> Result<(), AllocError> {
         self.emit('a', 0, kind)?;
-        self.due(&argument)?;
+        self.due(argument)?;
+        let function = arrow(self.heap, argument, kind)?;
         self.due(&function)
     }
 
-    fn split(&mut self, kind: &Kind) -> Result<(), AllocError> {
-        let marks = usize::from(self.random.chance(25));
-        let a = any_kind(self.random, self.heap, 1, marks == 0)?;
-        let b = any_kind(self.random, self.heap, 1, marks == 0)?;
-        let (x, y) = (a.marked(marks)?, b.marked(marks)?);
+    // A pair of a type, split into its components.
+    fn split(&mut self, kind: &Kind, pair: &Kind) -> Result<(), AllocError> {
         self.emit('d', 0, kind)?;
         self.tasks.push(Task::Leave(self.scope.len()))?;
         self.due(kind)?;
-        self.tasks.push(Task::Bind(x, y))?;
-        self.due(&Kind::pair(self.heap, marks, a, b)?)
+        self.tasks.push(Task::Bind(pair.clone()?))?;
+        self.due(pair)
+    }
+
+    // Brings the components of a pair into scope, under the marks of the pair.
+    fn bind(&mut self, pair: &Kind) -> Result<(), AllocError> {
+        if let Head::Pair(a, b) = &pair.head {
+            self.enter(a, pair.marks)?;
+            self.enter(b, pair.marks)?;
+        }
+        Ok(())
     }
 
     fn choose(&mut self, kind: &Kind) -> Result<(), AllocError> {
@@ -139,8 +161,14 @@ impl<'r> Maker<'r> {
             return self.introduce(kind);
         }
         match self.random.below(9) {
-            0 | 1 => self.apply(kind),
-            2 | 3 => self.split(kind),
+            0 | 1 => {
+                let argument = self.argument(kind)?;
+                self.apply(kind, &argument)
+            }
+            2 | 3 => {
+                let pair = any_pair(self.random, self.heap)?;
+                self.split(kind, &pair)
+            }
             4 => self.choose(kind),
             _ => self.introduce(kind),
         }
@@ -149,10 +177,7 @@ impl<'r> Maker<'r> {
     fn perform(&mut self, task: Task) -> Result<(), AllocError> {
         match task {
             Task::Make(kind, fuel) => self.make(&kind, fuel)?,
-            Task::Bind(a, b) => {
-                self.scope.push(a)?;
-                self.scope.push(b)?;
-            }
+            Task::Bind(pair) => self.bind(&pair)?,
             Task::Leave(level) => {
                 self.scope.truncate(level);
                 self.spent.retain(|at| *at < level);
