@@ -16,7 +16,8 @@ use Rattle.registers.specs.Answers.{prepare_answer, gate_answer, read_answer}
 use Rattle.stepper.specs.declared.writing.Answer.{Answer}
 use Rattle.stepper.specs.declared.writing.Answer.TheVariants.{Nothing, Handle, Outcome}
 use Rattle.controller.specs.declared.faults.ControllerFault.{ControllerFault}
-use Rattle.controller.specs.Asking.{handle_of, qubits_at, bit_asked, qubit_asked, gate_asked, Told, passed, asked, after_asked}
+use Rattle.registers.specs.Telling.{Told}
+use Rattle.controller.specs.Asking.{handle_of, qubits_at, bit_asked, qubit_asked, gate_asked, passed, asked, after_asked}
 
 -- the handles of an effect are those of qubits
 abbrev pub Within : Effect → Type 0

@@ -11,14 +11,15 @@ use Rattle.controller.specs.declared.faults.ControllerFault.{ControllerFault}
 use Rattle.controller.specs.declared.faults.Refusal.{Refusal}
 use Rattle.controller.specs.declared.faults.Stop.{Stop}
 use Rattle.controller.specs.declared.shot.Shot.{Shot}
-use Rattle.controller.specs.Asking.{Told}
+use Rattle.registers.specs.Telling.{Told}
 use Rattle.controller.specs.Faults.{ready_answer}
 use Rattle.controller.specs.Shots.{Held, held}
 use Rattle.controller.specs.Stepping.{Made, count_made, placed, step_made, StepLeaves}
-use Rattle.controller.specs.Running.{standing, RunAnswer}
+use Rattle.controller.specs.Running.{desk, RunAnswer}
 use Rattle.controller.specs.Keeping.{Stands, Kept, place_of, Keeps}
 use Rattle.controller.proofs.Keeping.{stays, loaded_stands}
 use Rattle.controller.proofs.Stepping.{StepKeeps, step_keeps}
+use Rattle.controller.proofs.Meant.{meant, answer_meant}
 use Rattle.controller.proofs.Ran.{run_made}
 
 -- The same of equal shots and registers.
@@ -57,9 +58,10 @@ module _ {R : Type 0} (kind : Ghosts R) where
       by (Some (m, a)) q s = let z = loaded_stands m h (sym s.claim_nothing ∙ s.means.written) in short (nat_lt room 1024) refl (grind arith)
 
   pub run_call : (shot shot' : Shot) (register register' : R) (work work' : List TermCell) (k : Kept kind.changes (held shot) (kind.meaning register)) (budget : ℕ) (result : Result (ℕ × Stop) Refusal)
-      → RunAnswer kind.changes budget (standing kind shot register work) (standing kind shot' register' work') result → OnErr result ((shot' ≡ shot) × (register' ≡ register) × (work' ≡ work))
+      → RunAnswer kind budget (desk shot register work) (desk shot' register' work') result → OnErr result ((shot' ≡ shot) × (register' ≡ register) × (work' ≡ work))
       → Keeps kind.changes (run budget (length work)) (held shot) (kind.meaning register) (held shot') (kind.meaning register') (is_err result) k
   run_call shot shot' register register' work work' k budget (Ok (n, stop)) a l =
-      run_made kind.changes budget n (standing kind shot register work) (standing kind shot' register' work') stop k a.0 a.1 a.2 a.3
+      let b = answer_meant kind budget (desk shot register work) (desk shot' register' work') (Ok (n, stop)) a in
+      run_made kind.changes budget n (meant kind (desk shot register work)) (meant kind (desk shot' register' work')) stop k b.0 b.1 b.2 b.3
   run_call shot shot' register register' work work' k budget (Err f) a l =
       stays (run budget (length work)) k (held shot') (kind.meaning register') (ap held l.0) (ap kind.meaning l.1) (run_refused (held shot) (kind.meaning register) k budget (length work) f a)

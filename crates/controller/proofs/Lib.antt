@@ -9,6 +9,8 @@ pub mod Asked
 pub mod Stepped
 pub mod Collected
 pub mod Stepping
+pub mod Meant
+pub mod Settled
 pub mod Ran
 pub mod Calls
 pub mod Same

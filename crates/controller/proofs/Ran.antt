@@ -13,11 +13,11 @@ use Rattle.rows.specs.Rows.{then_does}
 use Rattle.controller.specs.declared.faults.ControllerFault.{ControllerFault}
 use Rattle.controller.specs.declared.faults.Stop.{Stop}
 use Rattle.controller.specs.declared.faults.Stop.TheVariants.{Value as ValueStop, Budget, Refused as RefusedStop}
-use Rattle.controller.specs.Asking.{Told}
+use Rattle.registers.specs.Telling.{Told}
 use Rattle.controller.specs.Faults.{ready_answer}
 use Rattle.controller.specs.Shots.{Held}
 use Rattle.controller.specs.Stepping.{Made, stepped, held_after}
-use Rattle.controller.specs.Running.{Standing, Comes, Ran, none_made, one_more_made, Stopped}
+use Rattle.controller.specs.Meant.{Standing, Comes, Ran, none_made, one_more_made, Stopped}
 use Rattle.controller.specs.Keeping.{Holds, Stands, Kept, place_of, Keeps}
 use Rattle.controller.proofs.Collected.{found_value, value_found}
 use Rattle.controller.proofs.Stepped.{stepping}

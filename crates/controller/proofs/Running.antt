@@ -8,14 +8,14 @@ use Rattle.finder.specs.Finding.{answer}
 use Rattle.registers.specs.declared.register.Register.{Ghosts}
 use Rattle.controller.specs.declared.faults.ControllerFault.{ControllerFault}
 use Rattle.controller.specs.declared.shot.Shot.{Shot}
-use Rattle.controller.specs.Asking.{told}
+use Rattle.registers.specs.Telling.{told}
 use Rattle.controller.specs.Faults.{ready_answer}
 use Rattle.controller.specs.Shots.{held}
 use Rattle.controller.specs.Stepping.{Made, taken, count_made, StepLeaves}
-use Rattle.controller.specs.Running.{Standing, standing, Comes, after_step, Ran, one_more_made}
+use Rattle.controller.specs.Running.{Desk, desk, due, StepLeads, Ran, one_more_made}
 use Rattle.controller.specs.Unloading.{is_value}
 
-ok_err : {A F : Type 0} {x : A} {f : F} → ◌≡◌ {A = Result A F} (Ok x) (Err f) → ⊥
+pub ok_err : {A F : Type 0} {x : A} {f : F} → ◌≡◌ {A = Result A F} (Ok x) (Err f) → ⊥
 ok_err e = let z : ◌≡◌ {A = ℕ} 0 1 = cc in omega arith
 
 -- A count tells a step that was made, and a fault one that was refused.
@@ -35,33 +35,28 @@ module _ {R : Type 0} (kind : Ghosts R) (s s' : Shot) (r r' : R) (w w' : List Te
   abbrev Took : Result (Made kind.Content) ControllerFault
   Took = taken kind.changes (told kind r) (held s).cells found
 
-  comes : (x : Result (Made kind.Content) ControllerFault) → found ≡ answer (held s).cells → Took ≡ x → Comes kind.changes (standing kind s r w) x
-  comes x e q = record {
-    told = told kind r;
-    meaning = refl;
-    owed = kind.owed r;
-    step = ap (taken kind.changes (told kind r) (held s).cells) (sym e) ∙ q;
-  }
+  due_is : (x : Result (Made kind.Content) ControllerFault) → found ≡ answer (held s).cells → Took ≡ x → due kind (desk s r w) ≡ x
+  due_is x e q = ap (taken kind.changes (told kind r) (held s).cells) (sym e) ∙ q
 
-  pub run_goes_on : (a : Standing kind.Content) (made n : ℕ) → found ≡ answer (held s).cells → Ok n ≡ count_made Took → StepLeaves kind Took s s' r r' w w'
-      → Ran kind.changes a made (standing kind s r w) → Ran kind.changes a (made + 1) (standing kind s' r' w')
+  pub run_goes_on : (a : Desk R) (made n : ℕ) → found ≡ answer (held s).cells → Ok n ≡ count_made Took → StepLeaves kind Took s s' r r' w w'
+      → Ran kind a made (desk s r w) → Ran kind a (made + 1) (desk s' r' w')
   run_goes_on a made n e c l ran = go (counted_ok Took n c)
     where
-      go : (t : Made kind.Content) × (Took ≡ Ok t) → Ran kind.changes a (made + 1) (standing kind s' r' w')
+      go : (t : Made kind.Content) × (Took ≡ Ok t) → Ran kind a (made + 1) (desk s' r' w')
       go (t, q) =
           let p = subst (λ x. StepLeaves kind x s s' r r' w w') q l in
-          let b : standing kind s' r' w' ≡ after_step kind.changes (standing kind s r w) t = cc in
+          let b : StepLeads kind (desk s r w) (desk s' r' w') = record { made = t; step = due_is (Ok t) e q; shot = p.0; register = p.1; work = p.2 } in
           let k : suc made ≡ made + 1 = omega arith in
-          subst (λ k. Ran kind.changes a k (standing kind s' r' w')) k (one_more_made ran (comes (Ok t) e q) b)
+          subst (λ k. Ran kind a k (desk s' r' w')) k (one_more_made ran b)
 
-  pub run_refused : (a : Standing kind.Content) (made : ℕ) (f : ControllerFault) → found ≡ answer (held s).cells → is_value found ≡ false → Err f ≡ count_made Took → StepLeaves kind Took s s' r r' w w'
-      → Ran kind.changes a made (standing kind s r w)
-      → Ran kind.changes a made (standing kind s' r' w') × (is_value (answer (held s').cells) ≡ false) × Comes kind.changes (standing kind s' r' w') (Err f)
+  pub run_refused : (a : Desk R) (made : ℕ) (f : ControllerFault) → found ≡ answer (held s).cells → is_value found ≡ false → Err f ≡ count_made Took → StepLeaves kind Took s s' r r' w w'
+      → Ran kind a made (desk s r w)
+      → Ran kind a made (desk s' r' w') × (is_value (answer (held s').cells) ≡ false) × (due kind (desk s' r' w') ≡ Err f)
   run_refused a made f e v c l ran =
       let q = counted_err Took f c in
       let p = subst (λ x. StepLeaves kind x s s' r r' w w') q l in
-      let b : standing kind s r w ≡ standing kind s' r' w' = cc in (
-        subst (λ y. Ran kind.changes a made y) b ran,
+      let b : desk s r w ≡ desk s' r' w' = cc in (
+        subst (λ y. Ran kind a made y) b ran,
         ap (λ x. is_value (answer (held x).cells)) p.0 ∙ ap is_value (sym e) ∙ v,
-        subst (λ y. Comes kind.changes y (Err f)) b (comes (Err f) e q),
+        subst (λ y. due kind y ≡ Err f) b (due_is (Err f) e q),
       )

@@ -46,7 +46,8 @@ use Rattle.rows.proofs.Steps.{value_or_goes}
 use Rattle.rows.proofs.Going.{first}
 use Rattle.controller.specs.declared.faults.ControllerFault.{ControllerFault}
 use Rattle.controller.specs.declared.faults.ControllerFault.TheVariants.{NoRule, TooLong}
-use Rattle.controller.specs.Asking.{Told, passed, asked, after_asked}
+use Rattle.registers.specs.Telling.{Told}
+use Rattle.controller.specs.Asking.{passed, asked, after_asked}
 use Rattle.controller.specs.Letting.{released, released_all}
 use Rattle.controller.specs.Stepping.{Made, made, made_or_fault, advanced, taken, stepped}
 use Rattle.controller.specs.Keeping.{place}

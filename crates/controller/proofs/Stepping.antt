@@ -12,7 +12,7 @@ use Rattle.rows.proofs.Kept.{KeptTerm, kept_loaded, new, does}
 use Rattle.rows.proofs.Kept.{Kept as PlaceKept}
 use Rattle.controller.specs.declared.faults.ControllerFault.{ControllerFault}
 use Rattle.controller.specs.declared.faults.ControllerFault.TheVariants.{ShortTable}
-use Rattle.controller.specs.Asking.{Told}
+use Rattle.registers.specs.Telling.{Told}
 use Rattle.controller.specs.Faults.{ready_answer}
 use Rattle.controller.specs.Shots.{Held}
 use Rattle.controller.specs.Stepping.{Made, stepped, once_ready, step_made, held_after}

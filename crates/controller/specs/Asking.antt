@@ -8,9 +8,8 @@ use Rattle.calculus.specs.Gates.{gate_of}
 use Rattle.calculus.specs.Reading.{or_toffoli}
 use Rattle.finder.specs.declared.rules.Rule.{Rule}
 use Rattle.finder.specs.declared.rules.Rule.TheVariants.{Function, Pair, Then, Else, Prepare, Read, Gates}
-use Rattle.registers.specs.declared.fault.RegisterReason.{RegisterReason}
 use Rattle.registers.specs.declared.fault.RegisterFault.{RegisterFault}
-use Rattle.registers.specs.declared.register.Register.{Ghosts}
+use Rattle.registers.specs.Telling.{Told}
 use Rattle.registers.specs.Meaning.{Meaning, Changes, after_prepare, after_gate, after_read}
 use Rattle.registers.specs.Answers.{prepare_answer, gate_answer, read_answer}
 use Rattle.stepper.specs.declared.writing.Answer.{Answer}
@@ -49,16 +48,6 @@ qubit_asked cs = handle_of (cell_at cs 2)
 
 abbrev pub gate_asked : List TermCell → Gate
 gate_asked cs = or_toffoli (gate_of (cell_at cs 1).argument)
-
--- What a register's state tells: its meaning, and the answers that are its own.
-pub record Told (C : Type 0) : Type 0 where
-  pub meaning : Meaning C
-  pub depth : RegisterReason → ℕ
-  pub fresh : ℕ
-  pub outcome : ℕ → Bool
-
-abbrev pub told : {R : Type 0} (kind : Ghosts R) → R → Told kind.Content
-told kind r = record { meaning = kind.meaning r; depth = kind.depth r; fresh = kind.fresh r; outcome = kind.outcome r }
 
 -- an answer as a step takes it, and a refusal entire
 abbrev pub passed : {A : Type 0} → (A → Answer) → Result A RegisterFault → Result Answer ControllerFault

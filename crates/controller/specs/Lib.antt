@@ -4,7 +4,9 @@ pub mod Faults
 pub mod Keeping
 pub mod Letting
 pub mod Loading
+pub mod Meant
 pub mod Running
+pub mod Settled
 pub mod Shots
 pub mod Stepping
 pub mod Tables

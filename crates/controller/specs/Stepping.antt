@@ -13,7 +13,8 @@ use Rattle.stepper.specs.Next.{next_cells}
 use Rattle.controller.specs.declared.faults.ControllerFault.{ControllerFault}
 use Rattle.controller.specs.declared.faults.ControllerFault.TheVariants.{AtValue, NoRule, TooLong}
 use Rattle.controller.specs.declared.faults.Refusal.{Refusal}
-use Rattle.controller.specs.Asking.{Told, asked, after_asked}
+use Rattle.registers.specs.Telling.{Told}
+use Rattle.controller.specs.Asking.{asked, after_asked}
 use Rattle.controller.specs.Faults.{ready_answer, refused}
 use Rattle.controller.specs.Letting.{released_all}
 use Rattle.controller.specs.Shots.{Held, held}

@@ -3,7 +3,8 @@
 ghost use Rattle.std.specs.Prelude.{◌≡◌, false, cond, not, ◌&&◌, MatchResult, slice_index_or};
 ghost use Rattle.registers.specs.Answers.{gate_answer};
 ghost use Rattle.registers.specs.Meaning.{after_gate};
-ghost use Rattle.controller.specs.Asking.{asked, after_asked, cell_at, handle_of, gate_asked, qubits_at, told};
+ghost use Rattle.registers.specs.Telling.{told};
+ghost use Rattle.controller.specs.Asking.{asked, after_asked, cell_at, handle_of, gate_asked, qubits_at};
 ghost use Rattle.controller.specs.Letting.{released, released_all};
 ghost use Rattle.stepper.specs.Naming.{dropped};
 

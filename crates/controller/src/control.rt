@@ -22,10 +22,12 @@ impl<R: Register> Controller<R> {
     ghost use Rattle.std.specs.Prelude.{◌≡◌, length, is_err, MatchResult, OnErr};
     ghost use Rattle.rows.specs.Members.{step, run, collect, abandon};
     ghost use Rattle.registers.specs.Meaning.{after_clear};
-    ghost use Rattle.controller.specs.Asking.{told};
+    ghost use Rattle.registers.specs.Telling.{told};
     ghost use Rattle.controller.specs.Calls.{IsKept, CallKeeps, LoadKeeps};
     ghost use Rattle.controller.specs.Loading.{load_answer};
-    ghost use Rattle.controller.specs.Running.{RunAnswer, standing};
+    ghost use Rattle.controller.specs.Meant.{standing};
+    ghost use Rattle.controller.specs.Running.{RunAnswer, desk};
+    ghost use Rattle.controller.specs.Settled.{RunIsSettled};
     ghost use Rattle.controller.specs.Shots.{held, nothing_held, program_held};
     ghost use Rattle.controller.specs.Stepping.{StepLeaves, count_made, step_made, placed};
     ghost use Rattle.controller.specs.Unloading.{Ends, abandon_answer, collect_answer};
@@ -67,9 +69,11 @@ impl<R: Register> Controller<R> {
 
     /// Makes steps until the running term is a value, the budget is spent or a step is refused; answers those made, and why it stopped.
     pub fn run(&mut self, budget: u64, work: &mut [TermCell]) -> Result<(u64, Stop), Refusal>
-        ensures answer { RunAnswer R.Register.changes budget
-            (standing R.Register self.old.shot self.old.register work.old) (standing R.Register self.new.shot self.new.register work.new) result }
+        ensures answer { RunAnswer R.Register budget
+            (desk self.old.shot self.old.register work.old) (desk self.new.shot self.new.register work.new) result }
         ensures refused { OnErr result ((self.new ≡ self.old) × (work.new ≡ work.old)) }
+        ensures settled { RunIsSettled R.Register budget
+            (standing R.Register self.old.shot self.old.register work.old) (standing R.Register self.new.shot self.new.register work.new) result }
         ensures kept { CallKeeps R.Register (run budget (length work.old)) self.old self.new (is_err result) }
     {
         self.shot.run(&mut self.register, budget, work)

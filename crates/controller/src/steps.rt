@@ -1,9 +1,9 @@
 //! The steps of a running term.
 
 ghost use Rattle.std.specs.Prelude.{◌≡◌, ◌<◌, ◌≤◌, length, take, Ok, Err, OnErr};
-ghost use Rattle.controller.specs.Asking.{told};
+ghost use Rattle.registers.specs.Telling.{told};
 ghost use Rattle.controller.specs.Faults.{ready_answer};
-ghost use Rattle.controller.specs.Running.{RunAnswer, standing};
+ghost use Rattle.controller.specs.Running.{RunAnswer, desk};
 ghost use Rattle.controller.specs.Shots.{held};
 ghost use Rattle.controller.specs.Stepping.{StepLeaves, advanced, taken, one_more, count_made, step_made, placed};
 ghost use Rattle.controller.specs.Letting.{released_all};
@@ -146,7 +146,7 @@ impl Shot {
         budget: u64,
         work: &mut [TermCell],
     ) -> Result<(u64, Stop), Refusal>
-        ensures answer { RunAnswer R.Register.changes budget (standing R.Register self.old register.old work.old) (standing R.Register self.new register.new work.new) result }
+        ensures answer { RunAnswer R.Register budget (desk self.old register.old work.old) (desk self.new register.new work.new) result }
         ensures refused { OnErr result ((self.new ≡ self.old) × (register.new ≡ register.old) × (work.new ≡ work.old)) }
     {
         self.ready(work).map_err(|fault| fault.at(self.steps))?;

@@ -4,7 +4,7 @@ use Rattle.std.proofs.Common.{arith}
 use Rattle.registers.specs.declared.fault.RegisterReason.{RegisterReason}
 use Rattle.registers.specs.declared.fault.RegisterReason.TheVariants.{NoPulses, Full, GateNotMade, WrongCount, NotLive, GivenTwice}
 use Rattle.registers.specs.declared.fault.RegisterFault.{RegisterFault}
-use Rattle.registers.specs.Meaning.{Meaning, Owed}
+use Rattle.registers.specs.Meaning.{Meaning, Changes, Owed, after_prepare, after_gate, after_read, after_let_go, after_clear}
 
 -- one layer deeper, and at most 65,535
 abbrev pub deeper : ℕ → ℕ
@@ -15,9 +15,27 @@ abbrev pub passed_on : {A : Type 0} → Result A RegisterFault → Result A Regi
 passed_on (Ok x) = Ok x
 passed_on (Err f) = Err (record { reason = f.reason; depth = deeper f.depth })
 
+-- The content of a cap: its limit, and all that the register below means.
+pub record Under (C : Type 0) : Type 0 where
+  pub limit : ℕ
+  pub below : Meaning C
+
+abbrev pub under : {C : Type 0} → ℕ → Meaning C → Under C
+under limit m = record { limit = limit; below = m }
+
 -- what a register means under a limit
-abbrev pub capped : {C : Type 0} → ℕ → Meaning C → Meaning C
-capped limit m = record { capacity = min limit m.capacity; makes = m.makes; live = m.live; pulses = m.pulses; content = m.content }
+abbrev pub capped : {C : Type 0} → ℕ → Meaning C → Meaning (Under C)
+capped limit m = record { capacity = min limit m.capacity; makes = m.makes; live = m.live; pulses = m.pulses; content = under limit m }
+
+-- each call changes what the register below means, and the limit stays
+abbrev pub cap_changes : {C : Type 0} → Changes C → Changes (Under C)
+cap_changes changes = record {
+  prepared = λ c h bit. under c.limit (after_prepare changes c.below h bit);
+  gated = λ c gate on. under c.limit (after_gate changes c.below gate on);
+  was_read = λ c h outcome. under c.limit (after_read changes c.below h outcome);
+  let_go = λ c h. under c.limit (after_let_go changes c.below h);
+  cleared = λ c. under c.limit (after_clear changes c.below);
+}
 
 -- a cap itself refuses for want of room where its limit is reached; all else comes from below
 abbrev pub cap_depth : ℕ → ℕ → (RegisterReason → ℕ) → RegisterReason → ℕ
@@ -28,9 +46,13 @@ cap_depth limit count below WrongCount = deeper (below WrongCount)
 cap_depth limit count below NotLive = deeper (below NotLive)
 cap_depth limit count below GivenTwice = deeper (below GivenTwice)
 
--- a cap over a cap is a cap of the smaller limit
+-- a meaning but for its content
+abbrev pub but_content : {C : Type 0} → Meaning C → Meaning (Unit {0})
+but_content m = record { capacity = m.capacity; makes = m.makes; live = m.live; pulses = m.pulses; content = tt }
+
+-- but for their contents, a cap over a cap is a cap of the smaller limit
 abbrev pub CapsMerge : Type 0 → Type 0
-CapsMerge C = (inner outer : ℕ) (m : Meaning C) → capped outer (capped inner m) ≡ capped (min outer inner) m
+CapsMerge C = (inner outer : ℕ) (m : Meaning C) → but_content (capped outer (capped inner m)) ≡ but_content (capped (min outer inner) m)
 
 pub capped_owed : {C : Type 0} (limit fresh : ℕ) (m : Meaning C) → Owed m fresh → Owed (capped limit m) fresh
 capped_owed limit fresh m o = record {

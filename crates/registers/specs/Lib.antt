@@ -1,6 +1,7 @@
 pub mod Meaning
 pub mod Answers
 pub mod Sheet
+pub mod Telling
 pub mod Room
 pub mod Handles
 pub mod Next

@@ -2,7 +2,7 @@
 
 ghost use Rattle.std.specs.Prelude.{◌≡◌};
 ghost use Rattle.registers.specs.Meaning.{counted, after_clear};
-ghost use Rattle.registers.specs.Layers.{passed_on, capped, cap_depth, capped_owed};
+ghost use Rattle.registers.specs.Layers.{Under, passed_on, capped, cap_changes, cap_depth, capped_owed};
 
 use crate::fault::{RegisterFault, RegisterReason};
 use crate::register::Register;
@@ -37,9 +37,9 @@ fn pass_on<T>(answer: Result<T, RegisterFault>) -> Result<T, RegisterFault>
 }
 
 impl<R: Register> Register for Cap<R> {
-    ghost Content = { R.Register.Content };
+    ghost Content = { Under R.Register.Content };
 
-    ghost changes = { R.Register.changes };
+    ghost changes = { cap_changes R.Register.changes };
 
     ghost meaning = { λ s. capped s.limit (R.Register.meaning s.below) };
 

@@ -16,7 +16,8 @@ pub use fault::{RegisterFault, RegisterReason};
 pub use journal::Entry;
 pub use level::Level;
 pub use promises::{
-    caps_merge, level_reads_what_was_put, next_is_found, refusals_are_exact, room_is_kept,
+    cap_is_settled, caps_merge, level_is_settled, level_reads_what_was_put, next_is_found,
+    refusals_are_exact, room_is_kept, tape_is_settled,
 };
 pub use register::Register;
 pub use tape::Tape;

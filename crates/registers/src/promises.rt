@@ -5,8 +5,12 @@ ghost use Rattle.registers.specs.Next.{NextIsFound};
 ghost use Rattle.registers.specs.Put.{LevelReadsWhatWasPut};
 ghost use Rattle.registers.specs.Room.{RoomIsKept};
 ghost use Rattle.registers.specs.Sheet.{RefusalsAreExact};
+ghost use Rattle.registers.specs.Telling.{SettledBy, CapSettles, tape_tells, level_tells, cap_tells};
 
+use crate::cap::Cap;
+use crate::level::Level;
 use crate::register::Register;
+use crate::tape::Tape;
 
 /// A call is refused exactly where a row of the sheet of refusals holds for it, and then by the lowest number.
 pub fn refusals_are_exact<R: Register>() -> u8
@@ -22,7 +26,7 @@ pub fn room_is_kept<R: Register>() -> u8
     0
 }
 
-/// A cap over a cap is a cap of the smaller limit.
+/// But for what the two hold, a cap over a cap is a cap of the smaller limit.
 pub fn caps_merge<R: Register>() -> u8
     ensures { CapsMerge R.Register.Content }
 {
@@ -39,6 +43,27 @@ pub fn next_is_found() -> u8
 /// A fresh level that only prepares, flips and reads answers, for each handle, the bit it was last prepared at, turned over by each flip since.
 pub fn level_reads_what_was_put() -> u8
     ensures { LevelReadsWhatWasPut }
+{
+    0
+}
+
+/// What a tape tells is a function of what it means.
+pub fn tape_is_settled<'a>() -> u8
+    ensures { SettledBy ⟦<Tape<'a> as Register>⟧ tape_tells }
+{
+    0
+}
+
+/// What a level tells is a function of what it means.
+pub fn level_is_settled() -> u8
+    ensures { SettledBy ⟦<Level as Register>⟧ level_tells }
+{
+    0
+}
+
+/// What a cap tells is a function of what it means, if it is of the register below.
+pub fn cap_is_settled<R: Register>() -> u8
+    ensures { CapSettles R.Register ⟦<Cap<R> as Register>⟧ cap_tells }
 {
     0
 }

@@ -1,6 +1,6 @@
 use Rattle.std.proofs.Common.{refl}
 use Rattle.std.proofs.Math.Logic.{∥∥₁_map}
-use Rattle.controller.specs.Asking.{told}
+use Rattle.registers.specs.Telling.{told}
 use Rattle.controller.proofs.Calls.{step_call}
 use Rattle.controller.proofs.control.Controller.step.Goals as goal
 

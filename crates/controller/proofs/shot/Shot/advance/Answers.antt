@@ -12,7 +12,8 @@ use Rattle.stepper.specs.Next.{next_cells}
 use Rattle.stepper.specs.Writing.{counted}
 use Rattle.controller.specs.declared.faults.ControllerFault.{ControllerFault}
 use Rattle.controller.specs.declared.faults.ControllerFault.TheVariants.{NoRule, TooLong}
-use Rattle.controller.specs.Asking.{Told, told, asked, after_asked}
+use Rattle.registers.specs.Telling.{Told, told}
+use Rattle.controller.specs.Asking.{asked, after_asked}
 use Rattle.controller.specs.Letting.{released_all}
 use Rattle.controller.specs.Stepping.{Made, made_or_fault, advanced, count_made, StepLeaves}
 use Rattle.controller.proofs.shot.Shot.advance.Goals as goal

@@ -1,6 +1,6 @@
 use Rattle.std.proofs.Common.{◌≡◌, Ok, rules, length, sym, refl, arith}
 use Rattle.controller.specs.Faults.{ready_answer}
-use Rattle.controller.specs.Running.{none_made, standing}
+use Rattle.controller.specs.Running.{none_made, desk}
 use Rattle.controller.proofs.Running.{ready_room, run_goes_on, run_refused}
 use Rattle.controller.proofs.shot.Shot.run.Goals as goal
 
@@ -15,7 +15,7 @@ returns-in-Err-clause-answer g c =
     let l = c.loop-found in
     let i = l.invariant in
     let p = run_refused r l.self c.take_step.new.self l.register c.take_step.new.register l.work c.take_step.new.work c.find-found.result
-    (standing r c.args.self.now c.args.register.now c.args.work.now) l.made c.in-Err.fault (search rules) (sym c.if-is_value.ensures)
+    (desk c.args.self.now c.args.register.now c.args.work.now) l.made c.in-Err.fault (search rules) (sym c.if-is_value.ensures)
     c.in-Err.ensures.answer c.in-Err.ensures.state i.ran in
     (i.ready, i.within, p.0, (p.1, omega (arith, c.if-made-budget.false), p.2, refl))
 
@@ -28,6 +28,6 @@ loop-found-preserved g c =
       room = omega arith;
       within = omega (arith, c.if-made-budget.false);
       ran = run_goes_on r l.self c.take_step.new.self l.register c.take_step.new.register l.work c.take_step.new.work c.find-found.result
-          (standing r c.args.self.now c.args.register.now c.args.work.now) l.made c.in_default.field-0 (search rules)
+          (desk c.args.self.now c.args.register.now c.args.work.now) l.made c.in_default.field-0 (search rules)
           c.in_default.ensures.answer c.in_default.ensures.state l.invariant.ran;
     }

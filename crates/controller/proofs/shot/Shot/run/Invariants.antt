@@ -1,6 +1,6 @@
 use Rattle.std.proofs.Common.{◌≡◌, Ok, ◌-◌, ◌≤◌, length}
 use Rattle.controller.specs.Faults.{ready_answer}
-use Rattle.controller.specs.Running.{Ran, standing}
+use Rattle.controller.specs.Running.{Ran, desk}
 use Rattle.controller.specs.Shots.{held}
 use Rattle.controller.proofs.shot.Shot.run.Given as goal
 
@@ -9,7 +9,7 @@ invariant-loop-found g l = record {
   ready : ready_answer (length (held l.fn.self).cells) (length l.fn.work) ≡ Ok tt;
   room : 1024 ≤ length l.work;
   within : l.made ≤ l.budget;
-  ran : Ran g.R.Register.changes (standing g.R.Register l.fn.self l.fn.register l.fn.work) l.made (standing g.R.Register l.self l.register l.work);
+  ran : Ran g.R.Register (desk l.fn.self l.fn.register l.fn.work) l.made (desk l.self l.register l.work);
 }
 
 abbrev pub decreases-loop-found : goal.decreases-loop-found

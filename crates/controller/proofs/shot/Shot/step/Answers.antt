@@ -1,7 +1,7 @@
 use Rattle.std.proofs.Common.{◌≡◌, true, Ok, Err, Result, refl, sym, ap, ◌∙◌, subst}
 use Rattle.std.specs.Result.{is_ok}
 use Rattle.finder.specs.Finding.{answer}
-use Rattle.controller.specs.Asking.{told}
+use Rattle.registers.specs.Telling.{told}
 use Rattle.controller.specs.Stepping.{taken, stepped, once_ready, StepLeaves}
 use Rattle.controller.specs.declared.faults.ControllerFault.{ControllerFault}
 use Rattle.controller.proofs.shot.Shot.step.Goals as goal
