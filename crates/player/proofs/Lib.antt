@@ -1,1 +1,3 @@
+pub mod Called
 pub mod Played
+pub mod Settled

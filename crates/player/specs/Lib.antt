@@ -1,2 +1,4 @@
 pub mod Playing
+pub mod Settled
+pub mod Stages
 pub mod Turns

@@ -1,21 +1,18 @@
 -- What a turn is: a member of a row, or a program that is not accepted.
-use Rattle.std.specs.Prelude.{◌≡◌, ℕ, ◌≤◌, ◌⊎◌, Bool, true, false, List, length, min, Ok, Err, Result}
+use Rattle.std.specs.Prelude.{◌≡◌, ℕ, ◌⊎◌, Bool, true, false, List, min, Ok, Err}
 use Rattle.calculus.specs.declared.cells.TermCell.{TermCell}
 use Rattle.calculus.specs.declared.cells.TypeCell.{TypeCell}
 use Rattle.verdict.specs.declared.faults.CheckFault.{CheckFault}
+use Rattle.verdict.specs.Faults.{accepted}
 use Rattle.checker.specs.Accepting.{program_verdict}
 use Rattle.checker.specs.Meaning.{meaning}
 use Rattle.registers.specs.declared.register.Register.{Ghosts}
 use Rattle.rows.specs.Members.{Program, Member, load, step, run, collect, abandon}
-use Rattle.controller.specs.declared.faults.Refusal.{Refusal}
-use Rattle.controller.specs.declared.faults.Stop.{Stop}
 use Rattle.controller.specs.declared.control.Controller.{Controller}
 use Rattle.controller.specs.Calls.{CallKeeps, LoadKeeps}
 use Rattle.player.specs.declared.turns.Turn.{Turn}
 use Rattle.player.specs.declared.turns.Turn.TheVariants.{Load, Step, Run, Collect, Abandon}
-use Rattle.player.specs.declared.turns.Done.{Done}
-use Rattle.player.specs.declared.turns.Done.TheVariants.{Loaded, Stepped, Ran, Collected, Abandoned}
-use Rattle.player.specs.declared.turns.TurnFault.{TurnFault}
+use Rattle.player.specs.Stages.{Reply}
 use Rattle.player.specs.declared.turns.TurnFault.TheVariants.{NotAccepted, Refused}
 
 -- The lengths of the tables that the turns take their cells from.
@@ -27,13 +24,9 @@ pub record Rooms : Type 0 where
 abbrev pub rooms : ℕ → ℕ → ℕ → Rooms
 rooms work value kinds = record { work = work; value = value; kinds = kinds }
 
--- What a turn has done, or why it has done nothing.
-abbrev pub Reply : Type 0
-Reply = Result Done TurnFault
-
--- The turn is this member of a row: a load is of the program that its tables store, and no table is longer than its room.
+-- The turn is this member of a row: a load is of the accepted program that its tables store, and no table is longer than its room.
 abbrev pub IsMember : Rooms → Turn → Member → Type 0
-IsMember r (Load types terms) x = (p : Program) × (p.term ≡ meaning types.now terms.now 0) × (x ≡ load p)
+IsMember r (Load types terms) x = (program_verdict types.now terms.now ≡ accepted) × (p : Program) × (p.term ≡ meaning types.now terms.now 0) × (x ≡ load p)
 IsMember r (Step room) x = x ≡ step (min room r.work)
 IsMember r (Run budget room) x = x ≡ run budget (min room r.work)
 IsMember r (Collect room kind_room) x = x ≡ collect (min room r.value) (min kind_room r.kinds)
@@ -57,39 +50,13 @@ is_refused (Ok d) = false
 is_refused (Err (NotAccepted f)) = false
 is_refused (Err (Refused f)) = true
 
--- The reply to each call is its answer, or that it was refused. A load answers its term's count of cells, a run no more steps than its budget.
-abbrev pub Refuses : Reply → Type 0
-Refuses y = (f : Refusal) × (y ≡ Err (Refused f))
-
-abbrev pub LoadReply : List TermCell → Reply → Type 0
-LoadReply terms y = (y ≡ Ok (Loaded (length terms))) ⊎ Refuses y
-
-abbrev pub StepReply : Reply → Type 0
-StepReply y = ((n : ℕ) × (y ≡ Ok (Stepped n))) ⊎ Refuses y
-
-abbrev pub RunReply : ℕ → Reply → Type 0
-RunReply budget y = ((n : ℕ) × (why : Stop) × (n ≤ budget) × (y ≡ Ok (Ran n why))) ⊎ Refuses y
-
-abbrev pub CollectReply : Reply → Type 0
-CollectReply y = ((n : ℕ) × (k : ℕ) × (y ≡ Ok (Collected n k))) ⊎ Refuses y
-
-abbrev pub AbandonReply : Reply → Type 0
-AbandonReply y = (y ≡ Ok Abandoned) ⊎ Refuses y
-
-abbrev pub IsReply : Turn → Reply → Type 0
-IsReply (Load types terms) = LoadReply terms.now
-IsReply (Step room) = StepReply
-IsReply (Run budget room) = RunReply budget
-IsReply (Collect room kind_room) = CollectReply
-IsReply Abandon = AbandonReply
-
 module _ {R : Type 0} (kind : Ghosts R) where
   -- A load by its tables is played: as a member of a row, or nothing is called.
   abbrev pub LoadPlayed : List TypeCell → List TermCell → Controller R kind → Controller R kind → Reply → Type 0
   LoadPlayed types terms c c' y =
-      (LoadKeeps kind types terms c c' (is_refused y) × LoadReply terms y) ⊎ (Unaccepted types terms y × (c'.shot ≡ c.shot) × (c'.register ≡ c.register))
+      ((program_verdict types terms ≡ accepted) × LoadKeeps kind types terms c c' (is_refused y)) ⊎ (Unaccepted types terms y × (c'.shot ≡ c.shot) × (c'.register ≡ c.register))
 
   -- A turn is played: as the member that it is, or nothing is called.
   abbrev pub TurnPlayed : Rooms → Turn → Controller R kind → Controller R kind → Reply → Type 0
   TurnPlayed r turn c c' y =
-      ((x : Member) × IsMember r turn x × IsReply turn y × CallKeeps kind x c c' (is_refused y)) ⊎ (NotPlayed turn y × (c'.shot ≡ c.shot) × (c'.register ≡ c.register))
+      ((x : Member) × IsMember r turn x × CallKeeps kind x c c' (is_refused y)) ⊎ (NotPlayed turn y × (c'.shot ≡ c.shot) × (c'.register ≡ c.register))
