@@ -1,5 +1,6 @@
 mod Counted
 mod Cutting
+mod Listed
 mod Plain
 mod Played
 mod Texts

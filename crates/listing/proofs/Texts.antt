@@ -1,7 +1,6 @@
 -- The text of lines, one line more, and of lines in a row.
-use Rattle.std.proofs.Common.{◌≡◌, ℕ, ◌+◌, ◌<◌, List, [], ◌∷◌, ◌++◌, map, length, take, get_or, arith}
+use Rattle.std.proofs.Common.{◌≡◌, ℕ, ◌+◌, ◌<◌, List, [], ◌∷◌, ◌++◌, length, take, get_or, arith}
 use Rattle.std.proofs.lemmas.Grind.{common_steps, flat_map-append}
-use Rattle.std.proofs.lemmas.List.{take_more}
 use Rattle.registers.specs.declared.journal.Entry.{Entry}
 use Rattle.listing.specs.Lines.{line_text, text_of}
 use Rattle.listing.specs.Listing.{pulse_line, pulse_lines}

@@ -1,5 +1,6 @@
 pub mod Back
 pub mod Lines
+pub mod Listed
 pub mod Listing
 pub mod Playing
 pub mod Samples

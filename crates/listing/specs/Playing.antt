@@ -1,23 +1,24 @@
 -- What playing a shot comes to: its text is read, its row is played on a new tape, and the shot says what was replied.
-use Rattle.std.specs.Prelude.{◌≡◌, ℕ, ◌%◌, min, List, [], ◌∷◌, map, replicate, take, vec_len, Some, None, Ok, Err, Option, Result}
+use Rattle.std.specs.Prelude.{◌≡◌, ℕ, ◌%◌, List, [], ◌∷◌, map, replicate, take, Some, None, Ok, Err, Option, Result}
 use Rattle.std.specs.List.{range_with_len}
-use Rattle.calculus.specs.Cells.{blank}
+use Rattle.calculus.specs.Cells.{blank, kind_cell}
 use Rattle.calculus.specs.declared.cells.TermCell.{TermCell}
 use Rattle.calculus.specs.declared.cells.TypeCell.{TypeCell}
-use Rattle.registers.specs.Journal.{Reel, new_tape, tape_changes}
-use Rattle.registers.specs.Meaning.{Meaning}
+use Rattle.registers.specs.Journal.{new_tape, tape_meaning, tape_reel}
+use Rattle.registers.specs.declared.register.Register.{Ghosts}
+use Rattle.registers.specs.declared.tape.Tape.{Tape}
 use Rattle.registers.specs.declared.journal.Entry.{Entry}
 use Rattle.registers.specs.declared.journal.Entry.TheVariants.{Empty}
 use Rattle.reader.specs.Faults.{number_of as read_number}
-use Rattle.reader.specs.Reading.{reading}
+use Rattle.reader.specs.Reading.{Outcome, reading}
 use Rattle.reader.specs.declared.faults.ReadFault.{ReadFault}
 use Rattle.controller.specs.Faults.{fault_number}
-use Rattle.controller.specs.Shots.{Held}
+use Rattle.controller.specs.Shots.{nothing_held}
 use Rattle.controller.specs.declared.faults.Stop.{Stop}
 use Rattle.controller.specs.declared.faults.Stop.TheVariants.{Budget}
 use Rattle.verdict.specs.Faults.{number_of as check_number}
 use Rattle.player.specs.Playing.{RowPlayed}
-use Rattle.player.specs.Turns.{Reply, rooms}
+use Rattle.player.specs.Stages.{Reply, Stage, stage}
 use Rattle.player.specs.declared.turns.Done.TheVariants.{Ran as RunDone, Collected}
 use Rattle.player.specs.declared.turns.Turn.{Turn}
 use Rattle.player.specs.declared.turns.Turn.TheVariants.{Load, Run, Collect}
@@ -35,6 +36,10 @@ abbrev pub before_empty : List Entry → List Entry
 before_empty [] = []
 before_empty (Empty ∷ es) = []
 before_empty (e ∷ es) = e ∷ before_empty es
+
+-- what is read of a text into new tables
+abbrev pub text_read : List ℕ → Outcome
+text_read text = reading text (replicate 256 (kind_cell 0)) (replicate 512 blank)
 
 -- refused by the checker, at a cell, or by a call
 abbrev pub shot_of : TurnFault → Shot
@@ -58,40 +63,46 @@ abbrev pub cells_collected : Option Reply → ℕ × ℕ
 cells_collected (Some (Ok (Collected cells kinds))) = (cells, kinds)
 cells_collected collected = (0, 0)
 
--- The shot is a run of so many steps that stopped so, with so many cells of a value and of its type, and these pulses.
-abbrev pub IsRun : ℕ × Stop → ℕ × ℕ → List Entry → Shot → Type 0
-IsRun r n entries (Refused number place) = ⊥
-IsRun r n entries (Ran steps stop value kinds journal) =
-    (steps ≡ r.0) × (stop ≡ r.1) × (vec_len value ≡ min n.0 1024) × (vec_len kinds ≡ min n.1 256) × (journal.items ≡ before_empty entries)
+-- The shot is a run of so many steps that stopped so, with the value and its type at the front of their tables, as many cells as
+-- were collected, and these pulses.
+abbrev pub IsRun : ℕ × Stop → ℕ × ℕ → Stage Tape → Shot → Type 0
+IsRun r n end (Refused number place) = ⊥
+IsRun r n end (Ran steps stop value kinds journal) =
+    (steps ≡ r.0) × (stop ≡ r.1) × (value.items ≡ take n.0 end.value) × (kinds.items ≡ take n.1 end.kinds) × (journal.items ≡ before_empty (tape_reel end.register).entries)
 
 -- The shot is the run, or else the refusal of its load or of the run itself.
-abbrev pub IsMade : Result (ℕ × Stop) TurnFault → ℕ × ℕ → List Entry → Shot → Type 0
-IsMade (Err f) n entries s = s ≡ shot_of f
-IsMade (Ok r) n entries s = IsRun r n entries s
+abbrev pub IsMade : Result (ℕ × Stop) TurnFault → ℕ × ℕ → Stage Tape → Shot → Type 0
+IsMade (Err f) n end s = s ≡ shot_of f
+IsMade (Ok r) n end s = IsRun r n end s
 
--- The shot says what was replied to its load, run and collect, and which pulses were made.
-abbrev pub Tells : List (Option Reply) → List Entry → Shot → Type 0
-Tells (loaded ∷ run ∷ collected ∷ []) entries s = IsMade (run_made loaded run) (cells_collected collected) entries s
-Tells other entries s = ⊥
+-- The shot says what was replied to its load, run and collect, and where they led.
+abbrev pub Tells : List (Option Reply) → Stage Tape → Shot → Type 0
+Tells (loaded ∷ run ∷ collected ∷ []) end s = IsMade (run_made loaded run) (cells_collected collected) end s
+Tells other end s = ⊥
 
--- A row of a load, a run of at most 1,000 steps and a collect is played on a new tape of eight qubits and 64 pulses, and the shot
--- says what was replied and which pulses were made.
-pub record CellsPlayed (types : List TypeCell) (terms : List TermCell) (s : Shot) : Type 0 where
-  pub load : Turn
-  pub replies : List (Option Reply)
-  pub held : Held
-  pub tape : Meaning Reel
-  pub loads : Loads types terms load
-  pub played : RowPlayed tape_changes (new_tape 8 (alternating 64) (replicate 64 Empty)) (rooms 1024 1024 256)
-      (load ∷ Run 1000 1024 ∷ Collect 1024 256 ∷ []) (replicate 3 None) replies held tape
-  pub tells : Tells replies tape.content.entries s
+-- a tape and tables as a shot begins with them
+abbrev pub fresh_stage : Tape → Stage Tape
+fresh_stage tape = stage nothing_held tape (replicate 1024 blank) (replicate 1024 blank) (replicate 256 (kind_cell 0))
 
--- A text that is no stored program is refused by the reader; the cells of any other are played.
-abbrev pub ReadAndPlayed : Result (ℕ × ℕ) ReadFault → List TypeCell → List TermCell → Shot → Type 0
-ReadAndPlayed (Err f) types terms s = s ≡ Refused (read_number f.reason) f.line
-ReadAndPlayed (Ok n) types terms s = CellsPlayed (take n.0 types) (take n.1 terms) s
+module _ (kind : Ghosts Tape) where
+  -- A row of a load, a run of at most 1,000 steps and a collect is played on a new tape of eight qubits and 64 pulses, and the
+  -- shot says what was replied and where it led.
+  pub record CellsPlayed (types : List TypeCell) (terms : List TermCell) (s : Shot) : Type 0 where
+    pub load : Turn
+    pub loads : Loads types terms load
+    pub tape : Tape
+    pub is_new : tape_meaning tape ≡ new_tape 8 (alternating 64) (replicate 64 Empty)
+    pub replies : List (Option Reply)
+    pub end : Stage Tape
+    pub played : RowPlayed kind (fresh_stage tape) (load ∷ Run 1000 1024 ∷ Collect 1024 256 ∷ []) (replicate 3 None) replies end
+    pub tells : Tells replies end s
 
-abbrev pub TextPlayed : List ℕ → Shot → Type 0
-TextPlayed text s =
-    let r = reading text (replicate 256 (record { kind = 0 })) (replicate 512 blank) in
-    ReadAndPlayed r.answer r.types r.terms s
+  -- A text that is no stored program is refused by the reader; the cells of any other are played.
+  abbrev pub ReadAndPlayed : Result (ℕ × ℕ) ReadFault → List TypeCell → List TermCell → Shot → Type 0
+  ReadAndPlayed (Err f) types terms s = s ≡ Refused (read_number f.reason) f.line
+  ReadAndPlayed (Ok n) types terms s = CellsPlayed (take n.0 types) (take n.1 terms) s
+
+  abbrev pub TextPlayed : List ℕ → Shot → Type 0
+  TextPlayed text s =
+      let r = text_read text in
+      ReadAndPlayed r.answer r.types r.terms s

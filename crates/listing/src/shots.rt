@@ -5,13 +5,15 @@ ghost use Rattle.controller.specs.Faults.{fault_number};
 ghost use Rattle.reader.specs.Faults.{number_of as read_number};
 ghost use Rattle.verdict.specs.Faults.{number_of as check_number};
 ghost use Rattle.listing.specs.declared.shots.Shot.TheVariants.{Refused};
+ghost use Rattle.listing.specs.Listed.{cells_listed, listing_of};
+ghost use Rattle.listing.specs.Listing.{listing_lines, listing_text};
 ghost use Rattle.listing.specs.Playing.{alternating, before_empty, shot_of, run_made, cells_collected, CellsPlayed, TextPlayed};
 
 use calculus::{MOST_RUNNING_CELLS, MOST_TERM_CELLS, MOST_TYPE_CELLS, TermCell, TypeCell};
 use controller::{Refusal, Stop};
 use player::{Done, Reply, Turn, TurnFault, play as play_row};
 use reader::{ReadFault, read};
-use registers::{Entry, Tape};
+use registers::{Entry, Register, Tape};
 use std::alloc::{AllocError, Global};
 use verdict::CheckFault;
 
@@ -130,7 +132,8 @@ fn cells_collected(collected: Option<Reply>) -> (usize, usize)
 
 // Plays a shot's row on a new tape: a load, a run and the collecting of its value.
 fn play_cells(heap: Global, types: &[TypeCell], terms: &[TermCell]) -> Result<Shot, AllocError>
-    ensures { IfOk result (λ shot. CellsPlayed types.now terms.now shot) }
+    ensures played { IfOk result (λ shot. CellsPlayed ⟦<Tape<'static> as Register>⟧ types.now terms.now shot) }
+    ensures listed { IfOk result (λ shot. listing_lines shot ≡ cells_listed types.now terms.now) }
 {
     let outcomes = outcomes(heap)?;
     let mut journal = vec![in heap; Entry::Empty; PULSES]?;
@@ -164,7 +167,8 @@ fn play_cells(heap: Global, types: &[TypeCell], terms: &[TermCell]) -> Result<Sh
 
 /// Plays the shot of a stored program's text.
 pub fn play(heap: Global, text: &[u8]) -> Result<Shot, AllocError>
-    ensures { IfOk result (λ shot. TextPlayed text.now shot) }
+    ensures played { IfOk result (λ shot. TextPlayed ⟦<Tape<'static> as Register>⟧ text.now shot) }
+    ensures listed { IfOk result (λ shot. listing_text shot ≡ listing_of text.now) }
 {
     let mut types = vec![in heap; TypeCell::default(); MOST_TYPE_CELLS]?;
     let mut terms = vec![in heap; TermCell::default(); MOST_TERM_CELLS]?;

@@ -1,12 +1,12 @@
 -- On a settled kind of register, a row that is played is a function of where it starts.
-use Rattle.std.proofs.Common.{◌≡◌, ℕ, ◌∷◌, [], ◌++◌, map, min, List, length, take, drop, Some, Ok, Err, Option, Result, OnErr, refl, sym, ap, ap₂, ◌∙◌, subst}
+use Rattle.std.proofs.Common.{◌≡◌, ℕ, ◌∷◌, ◌++◌, map, min, List, length, take, drop, Some, Ok, Err, Option, Result, OnErr, refl, sym, ap, ap₂, ◌∙◌}
 use Rattle.std.proofs.lemmas.List.{take-append-drop}
 use Rattle.calculus.specs.declared.cells.TermCell.{TermCell}
 use Rattle.calculus.specs.declared.cells.TypeCell.{TypeCell}
 use Rattle.verdict.specs.Faults.{Verdict}
 use Rattle.checker.specs.Accepting.{program_verdict}
 use Rattle.registers.specs.declared.register.Register.{Ghosts}
-use Rattle.registers.specs.Meaning.{Meaning, after_clear}
+use Rattle.registers.specs.Meaning.{Meaning}
 use Rattle.registers.specs.Telling.{Told, told, SettledBy}
 use Rattle.rows.specs.Members.{Member}
 use Rattle.rows.specs.Places.{Place}
@@ -14,9 +14,8 @@ use Rattle.controller.specs.declared.faults.ControllerFault.{ControllerFault}
 use Rattle.controller.specs.declared.faults.Refusal.{Refusal}
 use Rattle.controller.specs.declared.faults.Stop.{Stop}
 use Rattle.controller.specs.Meant.{Standing}
-use Rattle.controller.specs.Settled.{run_of}
 use Rattle.controller.specs.Loading.{load_answer}
-use Rattle.controller.specs.Shots.{Held, nothing_held}
+use Rattle.controller.specs.Shots.{nothing_held}
 use Rattle.controller.specs.Stepping.{Made, count_made, held_after, placed, step_made}
 use Rattle.controller.specs.Tables.{begun_with}
 use Rattle.controller.specs.Unloading.{abandon_answer, collect_answer}
@@ -25,10 +24,10 @@ use Rattle.controller.proofs.Settled.{run_settled}
 use Rattle.player.specs.declared.turns.Turn.{Turn}
 use Rattle.player.specs.declared.turns.Turn.TheVariants.{Load, Step, Run, Collect, Abandon}
 use Rattle.player.specs.declared.turns.Done.TheVariants.{Loaded, Stepped}
-use Rattle.player.specs.Stages.{Reply, Stage, stage, desk_of, replied, as_run, as_collected, as_abandoned, after_load, load_made, StepLeads, StepMakes, RunMakes, Unloads, CollectLeads, AbandonLeads, TurnMakes}
+use Rattle.player.specs.Stages.{Reply, Stage, stage, desk_of, replied, as_run, after_load, load_made, StepLeads, StepMakes, RunMakes, Unloads, CollectLeads, AbandonLeads, TurnMakes}
 use Rattle.player.specs.Turns.{Rooms}
 use Rattle.player.specs.Playing.{Played, none_played, not_accepted, one_played, RowPlayed}
-use Rattle.player.specs.Settled.{meant_stage, load_turn, after_made, after_run, run_start, unloaded, after_collect, after_abandon, turn_of, before_rest, turns_of, RowIsSettled}
+use Rattle.player.specs.Settled.{meant_stage, load_turn, after_made, after_run, unloaded, after_collect, after_abandon, turn_of, before_rest, turns_of, RowIsSettled}
 
 module _ {R : Type 0} (kind : Ghosts R) (tells : Meaning kind.Content → Told kind.Content) (h : SettledBy kind tells) where
   abbrev at : Stage R → Stage (Meaning kind.Content)

@@ -9,7 +9,6 @@ use Rattle.registers.specs.Meaning.{Meaning, Changes, after_clear}
 use Rattle.registers.specs.Telling.{Told, SettledBy}
 use Rattle.controller.specs.declared.faults.ControllerFault.{ControllerFault}
 use Rattle.controller.specs.declared.faults.Refusal.{Refusal}
-use Rattle.controller.specs.declared.faults.Stop.{Stop}
 use Rattle.controller.specs.Loading.{load_answer}
 use Rattle.controller.specs.Meant.{Standing}
 use Rattle.controller.specs.Settled.{run_of}
