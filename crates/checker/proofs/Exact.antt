@@ -1,5 +1,6 @@
 -- Tables are accepted just where they store a term that has a derivation with its claims.
-use Rattle.std.proofs.Common.{◌≡◌, ℕ, List, [], ◌∷◌, length, sym, refl, ap, ◌∙◌, arith}
+use Rattle.std.proofs.lemmas.Bool.{false≢true}
+use Rattle.std.proofs.Common.{◌≡◌, ◌↔◌, true, is_ok, Ok, Err, Result, ℕ, List, [], ◌∷◌, length, sym, refl, ap, ◌∙◌, arith}
 use Rattle.std.specs.List.{flat_map}
 use Rattle.std.proofs.lemmas.List.{append-nil}
 use Rattle.calculus.specs.declared.cells.TypeCell.{TypeCell}
@@ -9,7 +10,9 @@ use Rattle.calculus.specs.Reading.{top, no_term, type_at, terms_of, term_at}
 use Rattle.calculus.specs.Terms.{Term, reclaimed}
 use Rattle.calculus.specs.Types.{Ty}
 use Rattle.calculus.proofs.ReadTerms.{written, read_back}
-use Rattle.checker.specs.Accepting.{Stores, CheckingIsExact}
+use Rattle.checker.specs.Accepting.{Stores, CheckingIsExact, IsDerivable, program_verdict}
+use Rattle.checker.specs.Judging.{verdict_of}
+use Rattle.verdict.specs.declared.faults.CheckFault.{CheckFault}
 use Rattle.checker.specs.Meaning.{meaning}
 use Rattle.checker.specs.Tables.{tables_tested}
 use Rattle.checker.proofs.Passing.{Passed, passed, passes, one_tree_ends}
@@ -53,3 +56,8 @@ checking_is_exact types terms = (
       let term = ap verdict (meant_by types terms h.0 s) ∙ (derivable h.0).1 h.1.1 in
       (then_accepted (tables_tested types terms) (verdict (meaning types terms 0))).1 (tables, term),
 )
+
+-- what a check answers tells whether its tables store what is derivable
+pub told_exactly : {A : Type 0} (types : List TypeCell) (terms : List TermCell) (r : Result A CheckFault) → verdict_of r ≡ program_verdict types terms → (is_ok r ≡ true) ↔ IsDerivable types terms
+told_exactly types terms (Ok a) e = ((λ q. (checking_is_exact types terms).0 (sym e)), (λ d. refl))
+told_exactly types terms (Err f) e = ((λ q. absurd (false≢true q)), (λ d. let v = (checking_is_exact types terms).1 d in cc))

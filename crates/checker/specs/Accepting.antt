@@ -33,7 +33,11 @@ pub record Stores (types : List TypeCell) (terms : List TermCell) (m : Term Ty) 
   pub cells : terms ≡ placed_cells placed
   pub means : m ≡ reclaimed (type_at types) placed
 
--- Two tables are accepted just where they store a term that has a derivation with its claims, and nests at most 32 binders.
+-- The tables store a term that has a derivation by the typing rules, with its claims, and nests at most 32 binders.
+abbrev pub IsDerivable : List TypeCell → List TermCell → Type 0
+IsDerivable types terms = (m : Term Ty) × (Stores types terms m × ((nested m ≤ 32) × Derives Claimed empty m (claim_of m)))
+
+-- Two tables are accepted just where what they store is derivable.
 abbrev pub CheckingIsExact : Type 0
 CheckingIsExact = (types : List TypeCell) (terms : List TermCell)
-    → (program_verdict types terms ≡ accepted) ↔ ((m : Term Ty) × (Stores types terms m × ((nested m ≤ 32) × Derives Claimed empty m (claim_of m))))
+    → (program_verdict types terms ≡ accepted) ↔ IsDerivable types terms

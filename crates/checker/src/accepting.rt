@@ -1,7 +1,7 @@
 //! The check of a whole program, programs that passed it, and what holds of both.
 
-ghost use Rattle.std.specs.Prelude.{◌≡◌, true, IfOk};
-ghost use Rattle.checker.specs.Accepting.{CheckingIsExact, accepts, program_verdict};
+ghost use Rattle.std.specs.Prelude.{◌≡◌, ◌↔◌, true, is_ok, IfOk};
+ghost use Rattle.checker.specs.Accepting.{CheckingIsExact, IsDerivable, accepts, program_verdict};
 ghost use Rattle.checker.specs.Judging.{verdict_of};
 ghost use Rattle.checker.specs.Worked.{WorkedPrograms};
 
@@ -38,6 +38,7 @@ impl<'a> Accepted<'a> {
 pub fn check<'a>(types: &'a [TypeCell], terms: &'a [TermCell]) -> Result<Accepted<'a>, CheckFault>
     ensures verdict { verdict_of result ≡ program_verdict types.now terms.now }
     ensures tables { IfOk result (λ p. (p.types.now ≡ types.now) × (p.terms.now ≡ terms.now)) }
+    ensures derivable { (is_ok result ≡ true) ↔ IsDerivable types.now terms.now }
 {
     test_tables(types, terms)?;
     judge_term(types, terms)?;

@@ -11,7 +11,7 @@ use Rattle.calculus.specs.Terms.{Term, claim_of}
 use Rattle.calculus.specs.Types.{Ty}
 use Rattle.calculus.specs.Typing.{Derives, Claimed}
 use Rattle.calculus.proofs.Reading.{T_true, both}
-use Rattle.checker.specs.Accepting.{Stores, accepts, program_verdict}
+use Rattle.checker.specs.Accepting.{Stores, IsDerivable, accepts, program_verdict}
 use Rattle.checker.specs.Tables.{claim_in}
 use Rattle.checker.proofs.Exact.{checking_is_exact}
 use Rattle.checker.proofs.Passing.{one_tree_ends}
@@ -21,6 +21,9 @@ use Rattle.controller.specs.Shots.{root_claim}
 is_accepted : (v : Verdict) → is_ok v ≡ true → v ≡ accepted
 is_accepted (Ok u) e = refl
 is_accepted (Err f) e = absurd (false≢true e)
+
+pub derivable : (types : List TypeCell) (terms : List TermCell) → accepts types terms ≡ true → IsDerivable types terms
+derivable types terms e = (checking_is_exact types terms).0 (is_accepted (program_verdict types terms) e)
 
 -- They store a term that has a derivation with its claims.
 pub stored : (types : List TypeCell) (terms : List TermCell) → accepts types terms ≡ true → (m : Term Ty) × Stores types terms m × Derives Claimed empty m (claim_of m)

@@ -13,4 +13,5 @@ pub mod Meant
 pub mod Settled
 pub mod Ran
 pub mod Calls
+pub mod Sound
 pub mod Same

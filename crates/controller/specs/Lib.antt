@@ -8,6 +8,7 @@ pub mod Meant
 pub mod Running
 pub mod Settled
 pub mod Shots
+pub mod Sound
 pub mod Stepping
 pub mod Tables
 pub mod Unloading

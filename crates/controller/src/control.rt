@@ -29,6 +29,8 @@ impl<R: Register> Controller<R> {
     ghost use Rattle.controller.specs.Running.{RunAnswer, desk};
     ghost use Rattle.controller.specs.Settled.{RunIsSettled};
     ghost use Rattle.controller.specs.Shots.{held, nothing_held, program_held};
+    ghost use Rattle.checker.specs.Accepting.{IsDerivable};
+    ghost use Rattle.controller.specs.Sound.{OnlyWantStopsStep};
     ghost use Rattle.controller.specs.Stepping.{StepLeaves, count_made, step_made, placed};
     ghost use Rattle.controller.specs.Unloading.{Ends, abandon_answer, collect_answer};
     ghost use Rattle.controller.specs.Tables.{begun_with};
@@ -52,6 +54,7 @@ impl<R: Register> Controller<R> {
         ensures state { MatchResult result
             (λ _. (held self.new.shot ≡ program_held program.now.types.now program.now.terms.now) × (self.new.register ≡ self.old.register))
             (λ _. self.new ≡ self.old) }
+        ensures derivable { IsDerivable program.now.types.now program.now.terms.now }
         ensures kept { LoadKeeps R.Register program.now.types.now program.now.terms.now self.old self.new (is_err result) }
     {
         self.shot.load(&self.register, program)
@@ -63,6 +66,7 @@ impl<R: Register> Controller<R> {
         ensures state { StepLeaves R.Register (step_made R.Register.changes (told R.Register self.old.register) (held self.old.shot) (length work.old))
             self.old.shot self.new.shot self.old.register self.new.register work.old work.new }
         ensures kept { CallKeeps R.Register (step (length work.old)) self.old self.new (is_err result) }
+        ensures refusal { OnlyWantStopsStep R.Register (held self.old.shot) self.old.register (length work.old) (is_err result) }
     {
         self.shot.step(&mut self.register, work)
     }

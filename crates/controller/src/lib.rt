@@ -6,8 +6,10 @@ mod control;
 mod ending;
 mod faults;
 mod loading;
+mod promises;
 mod shot;
 mod steps;
 
 pub use control::Controller;
 pub use faults::{ControllerFault, Refusal, Stop};
+pub use promises::every_controller_is_sound;

@@ -3,15 +3,19 @@ use Rattle.std.proofs.Common.{◌≡◌, ℕ, replicate, List, Ok, Err, Result, 
 use Rattle.calculus.specs.Cells.{kind_cell}
 use Rattle.calculus.specs.declared.cells.TermCell.{TermCell}
 use Rattle.calculus.specs.declared.cells.TypeCell.{TypeCell}
+use Rattle.registers.specs.declared.register.Register.{Ghosts}
 use Rattle.registers.specs.Journal.{Reel, tape_changes}
-use Rattle.verdict.specs.declared.faults.CheckFault.{CheckFault}
+use Rattle.registers.specs.Telling.{tape_tells}
 use Rattle.controller.specs.declared.faults.Refusal.{Refusal}
 use Rattle.controller.specs.declared.faults.Stop.{Stop}
-use Rattle.controller.specs.Running.{Standing}
+use Rattle.controller.specs.declared.shot.Shot.{Shot}
+use Rattle.controller.specs.Loading.{load_answer}
+use Rattle.controller.specs.Meant.{Standing, standing}
+use Rattle.controller.specs.Settled.{run_of, RunIsSettled}
+use Rattle.controller.specs.Shots.{held, program_held}
 use Rattle.controller.specs.Tables.{begun_with}
-use Rattle.exported.specs.declared.answers.Verdict.{Verdict}
 use Rattle.exported.specs.Numbers.{node_of, number_of_kind, pulse_of, handed}
-use Rattle.exported.specs.Runs.{LoadsAndRuns, collected, Tables, tables, tables_after, value_in, type_in, RunEnds, RunOf}
+use Rattle.exported.specs.Runs.{runs_if_loaded, loaded_and_run, LoadsAndRuns, collected, Tables, tables, tables_after, value_in, type_in}
 
 -- the tables as collecting leaves them
 left : (b : Standing Reel) (root : TypeCell) → root.kind ≡ 0 → (x : Result (ℕ × ℕ) Refusal) (value : List TermCell) (kinds : List TypeCell)
@@ -28,13 +32,22 @@ handed_back b root e x q value kinds m t =
     ap₂ (λ v k. tables (handed node_of v t.value) (handed number_of_kind k t.kinds) (handed pulse_of b.register.content.entries t.pulses)) both.0 both.1
     ∙ ap (λ y. tables (handed node_of (value_in b y) t.value) (handed number_of_kind (type_in b y) t.kinds) (handed pulse_of b.register.content.entries t.pulses)) q
 
-pub run_from : {types types' : List TypeCell} {terms terms' : List TermCell} {a a' : Standing Reel} (budget : ℕ) (b : Standing Reel) (answer : Result (ℕ × Stop) Refusal)
-    → types ≡ types' → terms ≡ terms' → a ≡ a' → LoadsAndRuns tape_changes types terms budget a b answer → LoadsAndRuns tape_changes types' terms' budget a' b answer
-run_from {types' = types'} {terms = terms} {terms' = terms'} {a = a} budget b answer e f g r =
-    subst (λ x. LoadsAndRuns tape_changes types' terms' budget x b answer) g
-    (subst (λ ms. LoadsAndRuns tape_changes types' ms budget a b answer) f
-    (subst (λ ts. LoadsAndRuns tape_changes ts terms budget a b answer) e r))
+pub run_from : {types types' : List TypeCell} {terms terms' : List TermCell} {a a' : Standing Reel} (budget : ℕ) (x : Result (ℕ × Stop) Refusal × Standing Reel)
+    → types ≡ types' → terms ≡ terms' → a ≡ a' → x ≡ loaded_and_run tape_changes tape_tells types terms budget a → x ≡ loaded_and_run tape_changes tape_tells types' terms' budget a'
+run_from {types' = types'} {terms = terms} {terms' = terms'} {a = a} budget x e f g r =
+    r ∙ ap (λ ts. loaded_and_run tape_changes tape_tells ts terms budget a) e ∙ ap (λ ms. loaded_and_run tape_changes tape_tells types' ms budget a) f ∙ ap (loaded_and_run tape_changes tape_tells types' terms' budget) g
 
-pub run_of : {types : List TypeCell} {terms : List TermCell} {outcomes : List ℕ} {budget : ℕ} {result : Verdict} {old new : Tables} {v : Result (Unit {0}) CheckFault}
-    → v ≡ Ok tt → RunEnds types terms outcomes budget result old new → RunOf types terms outcomes budget result old new v
-run_of {types = types} {terms = terms} {outcomes = outcomes} {budget = budget} {result = result} {old = old} {new = new} e r = subst (RunOf types terms outcomes budget result old new) (sym e) r
+-- a load that is made, and the run after it
+pub loads_and_runs : {R : Type 0} (kind : Ghosts R) (types : List TypeCell) (terms : List TermCell) (budget n : ℕ) (s s' : Shot) (r r' : R) (w : List TermCell) (b : Standing kind.Content) (answer : Result (ℕ × Stop) Refusal)
+    → Ok n ≡ load_answer (kind.meaning r).makes (held s) terms → held s' ≡ program_held types terms → r' ≡ r → RunIsSettled kind budget (standing kind s' r' w) b answer
+    → LoadsAndRuns kind types terms budget (standing kind s r w) b answer
+loads_and_runs kind types terms budget n s s' r r' w b answer l e f q tells h =
+    let start : standing kind s' r' w ≡ record { shot = program_held types terms; register = kind.meaning r; work = w } = ap₂ (λ h m. record { shot = h; register = m; work = w }) e (ap kind.meaning f) in
+    q tells h ∙ ap (λ a. run_of kind.changes tells budget a) start ∙ ap (runs_if_loaded kind.changes tells types terms budget (standing kind s r w)) l
+
+-- a load that is refused
+pub load_refused : {R : Type 0} (kind : Ghosts R) (types : List TypeCell) (terms : List TermCell) (budget : ℕ) (s s' : Shot) (r r' : R) (w : List TermCell) (f : Refusal) (answer : Result (ℕ × Stop) Refusal)
+    → Err f ≡ load_answer (kind.meaning r).makes (held s) terms → held s' ≡ held s → r' ≡ r → answer ≡ Err f
+    → LoadsAndRuns kind types terms budget (standing kind s r w) (standing kind s' r' w) answer
+load_refused kind types terms budget s s' r r' w f answer l e g q tells h =
+    ap₂ (λ y b. (y, b)) q (ap₂ (λ h m. record { shot = h; register = m; work = w }) e (ap kind.meaning g)) ∙ ap (runs_if_loaded kind.changes tells types terms budget (standing kind s r w)) l

@@ -1,18 +1,22 @@
 -- A program that is loaded on a new tape and runs, and what is handed back of it, in numbers.
-use Rattle.std.specs.Prelude.{◌≡◌, ℕ, List, replicate, Ok, Err, Result, OnErr}
+use Rattle.std.specs.Prelude.{◌≡◌, ℕ, List, replicate, Ok, Err, Result}
 use Rattle.calculus.specs.Cells.{blank}
 use Rattle.calculus.specs.declared.cells.TermCell.{TermCell}
 use Rattle.calculus.specs.declared.cells.TypeCell.{TypeCell}
-use Rattle.registers.specs.Meaning.{Changes, after_clear}
+use Rattle.registers.specs.declared.register.Register.{Ghosts}
+use Rattle.registers.specs.Meaning.{Meaning, Changes, after_clear}
+use Rattle.registers.specs.Telling.{Told, SettledBy, tape_tells}
 use Rattle.registers.specs.Journal.{Reel, tape_changes, new_tape}
 use Rattle.registers.specs.declared.journal.Entry.TheVariants.{Empty}
+use Rattle.checker.specs.Accepting.{program_verdict}
 use Rattle.verdict.specs.declared.faults.CheckFault.{CheckFault}
 use Rattle.controller.specs.declared.faults.Refusal.{Refusal}
 use Rattle.controller.specs.declared.faults.Stop.{Stop}
 use Rattle.controller.specs.declared.faults.Stop.TheVariants.{Value, Budget, Refused}
 use Rattle.controller.specs.Faults.{fault_number}
 use Rattle.controller.specs.Loading.{load_answer}
-use Rattle.controller.specs.Running.{Standing, RunAnswer}
+use Rattle.controller.specs.Meant.{Standing}
+use Rattle.controller.specs.Settled.{run_of}
 use Rattle.controller.specs.Shots.{nothing_held, program_held}
 use Rattle.controller.specs.Tables.{begun_with}
 use Rattle.controller.specs.Unloading.{collect_answer}
@@ -22,17 +26,19 @@ use Rattle.exported.specs.declared.tables.Pulse.{Pulse}
 use Rattle.exported.specs.Numbers.{node_of, number_of_kind, pulse_of, handed}
 use Rattle.exported.specs.Verdicts.{acceptance, check_refusal, call_refusal, fresh_kinds}
 
--- A program is loaded, and runs if the load is not refused; a refused call leaves everything as it was.
-module _ {C : Type 0} (changes : Changes C) (types : List TypeCell) (terms : List TermCell) (budget : ℕ) (a b : Standing C) (answer : Result (ℕ × Stop) Refusal) where
-  abbrev pub RunsFrom : Standing C → Type 0
-  RunsFrom start = RunAnswer changes budget start b answer × OnErr answer (b ≡ start)
+-- A program is loaded, and runs if the load is not refused; a refused call leaves everything as it was. On a settled kind of
+-- register, both are a function of where they start.
+module _ {C : Type 0} (changes : Changes C) (tells : Meaning C → Told C) (types : List TypeCell) (terms : List TermCell) (budget : ℕ) where
+  abbrev pub runs_if_loaded : Standing C → Result ℕ Refusal → Result (ℕ × Stop) Refusal × Standing C
+  runs_if_loaded a (Ok n) = run_of changes tells budget (record { shot = program_held types terms; register = a.register; work = a.work })
+  runs_if_loaded a (Err f) = (Err f, a)
 
-  abbrev pub RunsAfter : Result ℕ Refusal → Type 0
-  RunsAfter (Ok n) = RunsFrom (record { shot = program_held types terms; register = a.register; work = a.work })
-  RunsAfter (Err f) = (answer ≡ Err f) × (b ≡ a)
+  abbrev pub loaded_and_run : Standing C → Result (ℕ × Stop) Refusal × Standing C
+  loaded_and_run a = runs_if_loaded a (load_answer a.register.makes a.shot terms)
 
-  abbrev pub LoadsAndRuns : Type 0
-  LoadsAndRuns = RunsAfter (load_answer a.register.makes a.shot terms)
+abbrev pub LoadsAndRuns : {R : Type 0} (kind : Ghosts R) → List TypeCell → List TermCell → ℕ → Standing kind.Content → Standing kind.Content → Result (ℕ × Stop) Refusal → Type 0
+LoadsAndRuns kind types terms budget a b answer =
+    (tells : Meaning kind.Content → Told kind.Content) → SettledBy kind tells → (answer, b) ≡ loaded_and_run kind.changes tells types terms budget a
 
 -- nothing loaded, a new tape of the outcomes, and a new work table
 abbrev pub new_standing : List ℕ → Standing Reel
@@ -82,14 +88,14 @@ abbrev pub tables_after : Standing Reel → Tables → Tables
 tables_after b t = tables (handed node_of (value_in b (collected b)) t.value) (handed number_of_kind (type_in b (collected b)) t.kinds) (handed pulse_of b.register.content.entries t.pulses)
 
 -- An accepted program is loaded on a new tape and runs to its end; of one that is not accepted the fault is told, and the tables stay.
-module _ (types : List TypeCell) (terms : List TermCell) (outcomes : List ℕ) (budget : ℕ) (result : Verdict) (old new : Tables) where
-  pub record RunEnds : Type 0 where
-    pub last : Standing Reel
-    pub answer : Result (ℕ × Stop) Refusal
-    pub runs : LoadsAndRuns tape_changes types terms budget (new_standing outcomes) last answer
-    pub verdict : result ≡ with_count (ran_or_refused answer) (collected last)
-    pub back : new ≡ tables_after last old
+abbrev pub run_ends : Result (ℕ × Stop) Refusal × Standing Reel → Tables → Verdict × Tables
+run_ends e old = (with_count (ran_or_refused e.0) (collected e.1), tables_after e.1 old)
 
-  abbrev pub RunOf : Result (Unit {0}) CheckFault → Type 0
-  RunOf (Ok u) = RunEnds
-  RunOf (Err f) = (result ≡ check_refusal f) × (new ≡ old)
+module _ (types : List TypeCell) (terms : List TermCell) (outcomes : List ℕ) (budget : ℕ) (old : Tables) where
+  abbrev pub run_if_accepted : Result (Unit {0}) CheckFault → Verdict × Tables
+  run_if_accepted (Ok u) = run_ends (loaded_and_run tape_changes tape_tells types terms budget (new_standing outcomes)) old
+  run_if_accepted (Err f) = (check_refusal f, old)
+
+  -- the verdict, and the tables that are handed back
+  abbrev pub run_answered : Verdict × Tables
+  run_answered = run_if_accepted (program_verdict types terms)

@@ -2,9 +2,9 @@
 
 ghost use Rattle.std.specs.Prelude.{◌≡◌, ◌≤◌, IfOk, IfSome, OnErr};
 ghost use Rattle.checker.specs.Accepting.{program_verdict};
-ghost use Rattle.controller.specs.Running.{standing};
+ghost use Rattle.controller.specs.Meant.{standing};
 ghost use Rattle.exported.specs.Numbers.{kinds_seen, cells_seen};
-ghost use Rattle.exported.specs.Runs.{LoadsAndRuns, RunOf, ran, tables};
+ghost use Rattle.exported.specs.Runs.{LoadsAndRuns, ran, run_answered, tables};
 
 use crate::answers::{Verdict, accepted, refused};
 use crate::tables::{
@@ -52,7 +52,7 @@ fn load_and_run<R: Register>(
     budget: u64,
     work: &mut [TermCell],
 ) -> Result<(u64, Stop), Refusal>
-    ensures runs { LoadsAndRuns R.Register.changes program.now.types.now program.now.terms.now budget
+    ensures runs { LoadsAndRuns R.Register program.now.types.now program.now.terms.now budget
         (standing R.Register controller.old.shot controller.old.register work.old) (standing R.Register controller.new.shot controller.new.register work.new) result }
     ensures within { IfOk result (λ r. r.0 ≤ budget) }
 {
@@ -72,8 +72,8 @@ pub extern "C" fn ql_run(
     kinds: &mut [u32],
     pulses: &mut [Pulse],
 ) -> Verdict
-    ensures { RunOf (kinds_seen letters.now) (cells_seen nodes.now) outcomes.now budget result
-        (tables value.old kinds.old pulses.old) (tables value.new kinds.new pulses.new) (program_verdict (kinds_seen letters.now) (cells_seen nodes.now)) }
+    ensures { (result, tables value.new kinds.new pulses.new)
+        ≡ run_answered (kinds_seen letters.now) (cells_seen nodes.now) outcomes.now budget (tables value.old kinds.old pulses.old) }
 {
     let (types, terms) = (type_table(letters), term_table::<TERM_PLACES>(nodes));
     let program = match check(types.as_slice(), terms.as_slice()) {

@@ -1,15 +1,18 @@
-use Rattle.std.proofs.Common.{rules, ◌≡◌, List, replicate, length, Ok, sym, ap, ap₂, ◌∙◌}
+use Rattle.std.proofs.Common.{rules, ◌≡◌, ℕ, Result, refl, List, replicate, length, Ok, sym, ap, ap₂, ◌∙◌}
 use Rattle.calculus.specs.declared.cells.TermCell.{TermCell}
 use Rattle.registers.specs.Journal.{Reel, tape_changes, tape_meaning, tape_reel}
 use Rattle.registers.specs.Meaning.{Meaning, after_clear}
 use Rattle.checker.specs.Accepting.{program_verdict}
-use Rattle.controller.specs.Running.{Standing}
+use Rattle.registers.specs.Telling.{tape_tells}
+use Rattle.controller.specs.declared.faults.Refusal.{Refusal}
+use Rattle.controller.specs.declared.faults.Stop.{Stop}
+use Rattle.controller.specs.Meant.{Standing}
 use Rattle.controller.specs.Shots.{Held, held, nothing_held}
 use Rattle.controller.specs.Unloading.{collect_answer}
 use Rattle.exported.specs.Numbers.{kinds_seen, cells_seen, node_of, number_of_kind, pulse_of, handed}
-use Rattle.exported.specs.Runs.{new_standing, ran_or_refused, with_count, collected, tables}
+use Rattle.exported.specs.Runs.{new_standing, ran_or_refused, with_count, collected, run_ends, run_if_accepted, tables}
 use Rattle.calculus.proofs.NewCells.{new_cell}
-use Rattle.exported.proofs.Runs.{handed_back, run_from, run_of}
+use Rattle.exported.proofs.Runs.{handed_back, run_from}
 use Rattle.exported.proofs.shots.ql_run.Goals as goal
 use Rattle.exported.proofs.shots.ql_run.Goals.{in-Ok-load_and_run, in-Err-load_and_run, in-Ok-collect, in_default}
 
@@ -41,12 +44,11 @@ returns c =
     let journal : c.journal.result.now ≡ last.register.content.entries = c.journal.ensures ∙ ap (λ r. (tape_reel r).entries) c.register.ensures in
     let value = handed node_of c.collect.new.value c.args.value.now in
     let kinds = handed number_of_kind c.collect.new.kinds c.args.kinds.now in
-    run_of accepted (record {
-      last = last;
-      answer = c.load_and_run.result;
-      runs = run_from c.args.budget last c.load_and_run.result kinds_are cells_are start c.load_and_run.ensures.runs;
-      verdict = second ∙ ap₂ with_count first count;
-      back = ap₂ (λ v k. tables v k c.give_journal.new.pulses) c.give_terms.ensures c.give_types.ensures
-          ∙ ap (tables value kinds) (c.give_journal.ensures ∙ ap (λ j. handed pulse_of j c.args.pulses.now) journal)
-          ∙ handed_back last c.default-root.result c.default-root.ensures c.collect.result count c.collect.new.value c.collect.new.kinds c.collect.ensures.tables (tables c.args.value.now c.args.kinds.now c.args.pulses.now);
-    })
+    let old = tables c.args.value.now c.args.kinds.now c.args.pulses.now in
+    let runs = run_from c.args.budget (c.load_and_run.result, last) kinds_are cells_are start (c.load_and_run.ensures.runs tape_tells (λ r. refl)) in
+    let back = ap₂ (λ v k. tables v k c.give_journal.new.pulses) c.give_terms.ensures c.give_types.ensures
+    ∙ ap (tables value kinds) (c.give_journal.ensures ∙ ap (λ j. handed pulse_of j c.args.pulses.now) journal)
+    ∙ handed_back last c.default-root.result c.default-root.ensures c.collect.result count c.collect.new.value c.collect.new.kinds c.collect.ensures.tables old in
+    ap₂ (λ v t. (v, t)) (second ∙ ap₂ with_count first count) back
+    ∙ ap (λ (x : Result (ℕ × Stop) Refusal × Standing Reel). run_ends x old) runs
+    ∙ ap (run_if_accepted ks cs c.args.outcomes.now c.args.budget old) (sym accepted)

@@ -1,5 +1,6 @@
 use Rattle.std.proofs.Common.{refl}
 use Rattle.std.proofs.Math.Logic.{∥∥₁_map}
+use Rattle.controller.proofs.Accepted.{derivable}
 use Rattle.controller.proofs.Loaded.{load_call}
 use Rattle.controller.proofs.Same.{same, told_otherwise}
 use Rattle.controller.proofs.control.Controller.load.Goals as goal
@@ -22,3 +23,6 @@ returns-clause-kept g c =
     let s = c.args.self.now in
     let p = c.args.program.now in
     load_call r.changes r.meaning p.types.now p.terms.now p.checked s.shot c.load.new.self s.register s.register c.load.result c.load.ensures.answer c.load.ensures.state refl
+
+pub returns-clause-derivable : goal.returns-clause-derivable
+returns-clause-derivable g c = derivable c.args.program.now.types.now c.args.program.now.terms.now c.args.program.now.checked
