@@ -90,7 +90,7 @@ collected {C = C} {changes = changes} {h = h} {r = r} k v w h' r' b e done left 
                 let now = done c in
                 let fits : (v < size m) ⊎ (w < length (type_cells a)) → ⊥ = λ l. absurd (false≢true (sym y ∙ (short_tables h v w s).1 l)) in
                 let ok : Refused (place_of k) (collect v w) → ⊥ = λ z. collect_taken changes (place_of k) q (found_value h.cells m s.means x) (λ l. fits (inl l)) (λ l. fits (inr l)) z.1 in
-                subst (λ z. Keeps changes (collect v w) h r h' r' z k) (sym c) (ended (collect v w) k h' r' (now.0) (now.1) ok (collects ok))
+                subst (λ z. Keeps changes (collect v w) h r h' r' z k) (sym c) (ended (collect v w) k h' r' (now.0) (now.1) ok (collects ok) refl)
 
 pub collect_call : {R C : Type 0} (changes : Changes C) (meaning : R → Meaning C) (shot shot' : Shot) (register register' : R) (v w : ℕ) (result : Result (ℕ × ℕ) Refusal)
     → result ≡ collect_answer (held shot) v w

@@ -17,9 +17,10 @@ use Rattle.controller.specs.declared.shot.Shot.{Shot}
 use Rattle.controller.specs.Faults.{refused as refused_call}
 use Rattle.controller.specs.Unloading.{abandon_answer}
 use Rattle.controller.specs.Shots.{Held, held, nothing_held, is_loaded}
+use Rattle.controller.specs.Counting.{counted_on, steps_since_load}
 use Rattle.controller.specs.Keeping.{Stands, place, Kept, place_of, Keeps, KeptBy}
 
-pub kept_new : {C : Type 0} (changes : Changes C) (given : Meaning C) → given.capacity ≤ 32 → Kept changes nothing_held (after_clear changes given)
+abbrev pub kept_new : {C : Type 0} (changes : Changes C) (given : Meaning C) → given.capacity ≤ 32 → Kept changes nothing_held (after_clear changes given)
 kept_new changes given small =
     record {
       loaded = None;
@@ -27,6 +28,7 @@ kept_new changes given small =
       start = place None (after_clear changes given);
       is_new = record { nothing = refl; given = given; small = small; cleared = refl };
       reached = at_start;
+      counts = refl;
     }
 
 -- A call that is refused, and leaves everything as it was.
@@ -61,9 +63,9 @@ leads {changes = changes} {h = h} {h₁ = h₁} {r = r} x k after h' r' e f ok d
 
 -- What ends the loaded term: nothing is held, and the register is cleared.
 pub ended : {C : Type 0} {changes : Changes C} {h : Held} {r : Meaning C} (x : Member) (k : Kept changes h r) (h' : Held) (r' : Meaning C)
-    → h' ≡ nothing_held → r' ≡ after_clear changes r → (Refused (place_of k) x → ⊥) → Does changes (place_of k) x (place None (after_clear changes r))
-    → Keeps changes x h r h' r' false k
-ended x k h' r' e f ok d = leads x k (record { loaded = None; stands = refl; start = k.start; is_new = k.is_new; reached = then_does k.reached d }) h' r' e f ok d
+    → h' ≡ nothing_held → r' ≡ after_clear changes r → (Refused (place_of k) x → ⊥) → (d : Does changes (place_of k) x (place None (after_clear changes r)))
+    → 0 ≡ counted_on (steps_since_load k.reached) d → Keeps changes x h r h' r' false k
+ended x k h' r' e f ok d z = leads x k (record { loaded = None; stands = refl; start = k.start; is_new = k.is_new; reached = then_does k.reached d; counts = z }) h' r' e f ok d
 
 nothing_refuses : {C : Type 0} {changes : Changes C} {h : Held} {r : Meaning C} (k : Kept changes h r) {m : Running} {a : Ty} → k.loaded ≡ Some (m, a) → Refused (place_of k) abandon → ⊥
 nothing_refuses k e (n, nothing_to_abandon q) = some_none e q
@@ -82,7 +84,7 @@ abandoned {C = C} {changes = changes} {h = h} {r = r} k h' r' b e done left = by
     by (Some (m, a)) q s =
         let c : b ≡ false = e ∙ ap not (loaded_stands m h (sym s.claim_nothing ∙ s.means.written)) in
         let now = done c in
-        subst (λ y. Keeps changes abandon h r h' r' y k) (sym c) (ended abandon k h' r' (now.0) (now.1) (nothing_refuses k q) (abandons (nothing_refuses k q)))
+        subst (λ y. Keeps changes abandon h r h' r' y k) (sym c) (ended abandon k h' r' (now.0) (now.1) (nothing_refuses k q) (abandons (nothing_refuses k q)) refl)
 
 pub abandon_call : {R C : Type 0} (changes : Changes C) (meaning : R → Meaning C) (shot shot' : Shot) (register register' : R) (result : Result (Unit {0}) Refusal)
     → result ≡ abandon_answer (held shot)

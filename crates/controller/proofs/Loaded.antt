@@ -182,7 +182,7 @@ module _ (types : List TypeCell) (terms : List TermCell) (x : Program) (placed :
   module _ {C : Type 0} {changes : Changes C} {h : Held} {r : Meaning C} (k : Kept changes h r) (h' : Held) (r' : Meaning C) where
     -- the program's term stands, beside the register as it was
     entered : h' ≡ program_held types terms → r' ≡ r → (Refused (place_of k) (load x) → ⊥) → Keeps changes (load x) h r h' r' false k
-    entered e f ok = leads (load x) k (record { loaded = Some (erased x.term, claim_of x.term); stands = held_term; start = k.start; is_new = k.is_new; reached = then_does k.reached (loads ok) })
+    entered e f ok = leads (load x) k (record { loaded = Some (erased x.term, claim_of x.term); stands = held_term; start = k.start; is_new = k.is_new; reached = then_does k.reached (loads ok); counts = refl })
         h' r' e f ok (loads ok)
 
     pub loaded : (b : Bool) → b ≡ is_err (load_answer r.makes h terms)

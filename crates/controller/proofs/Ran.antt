@@ -1,15 +1,15 @@
 -- A call of run keeps the invariant, by what the member of a row does: it is its steps, and it stops for the reason that it tells.
-use Rattle.std.proofs.Common.{◌≡◌, ℕ, suc, ◌≤◌, false, length, Some, None, Option, Ok, Err, sym, refl, ap, ◌∙◌, subst, arith}
+use Rattle.std.proofs.Common.{◌≡◌, ℕ, suc, ◌+◌, ◌≤◌, min, false, length, Some, None, Option, Ok, Err, sym, refl, ap, ◌∙◌, subst, arith}
 use Rattle.calculus.specs.Types.{Ty}
 use Rattle.calculus.specs.Terms.{Running}
 use Rattle.registers.specs.Meaning.{Meaning, Changes, Fresh}
 use Rattle.rows.proofs.Sound.{some_none}
 use Rattle.std.proofs.lemmas.Bool.{false≢true}
-use Rattle.rows.specs.Members.{step, run}
+use Rattle.rows.specs.Members.{Member, step, run}
 use Rattle.rows.specs.Places.{Place}
 use Rattle.rows.specs.Refusing.{most_cells, Runs, nothing_to_run, short_to_run, Refused}
-use Rattle.rows.specs.Doing.{Many, no_more, one_more, Stops, at_value, at_budget, at_refusal, Does, refused, steps, runs}
-use Rattle.rows.specs.Rows.{then_does}
+use Rattle.rows.specs.Doing.{Many, no_more, one_more, Stops, at_value, at_budget, at_refusal, Does, refused, loads, steps, runs, collects, abandons}
+use Rattle.rows.specs.Rows.{Reached, at_start, then_does}
 use Rattle.controller.specs.declared.faults.ControllerFault.{ControllerFault}
 use Rattle.controller.specs.declared.faults.Stop.{Stop}
 use Rattle.controller.specs.declared.faults.Stop.TheVariants.{Value as ValueStop, Budget, Refused as RefusedStop}
@@ -18,10 +18,40 @@ use Rattle.controller.specs.Faults.{ready_answer}
 use Rattle.controller.specs.Shots.{Held}
 use Rattle.controller.specs.Stepping.{Made, stepped, held_after}
 use Rattle.controller.specs.Meant.{Standing, Comes, Ran, none_made, one_more_made, Stopped}
+use Rattle.controller.specs.Stepping.{one_more as one_more_step}
+use Rattle.controller.specs.Counting.{later, counted_on, steps_since_load}
 use Rattle.controller.specs.Keeping.{Holds, Stands, Kept, place_of, Keeps}
 use Rattle.controller.proofs.Collected.{found_value, value_found}
 use Rattle.controller.proofs.Stepped.{stepping}
 use Rattle.controller.proofs.Stepping.{StepKeeps, after_stepping, kept_term}
+
+none_later : (n most : ℕ) → n ≤ most → n ≡ min (n + 0) most
+none_later n most l = omega arith
+
+one_later : (n k most : ℕ) → min (min (n + k) most + 1) most ≡ min (n + suc k) most
+one_later n k most = omega arith
+
+-- no count is above the last number
+small : {C : Type 0} {changes : Changes C} {p q : Place C} (r : Reached changes p q) → steps_since_load r ≤ 18446744073709551615
+small at_start = most_zero 18446744073709551615
+  where
+    most_zero : (n : ℕ) → 0 ≤ n
+    most_zero n = omega arith
+small (then_does r d) = by 18446744073709551615 (steps_since_load r) (small r) d
+  where
+    below : (n most : ℕ) → min n most ≤ most
+    below n most = omega arith
+
+    zero_below : (most : ℕ) → 0 ≤ most
+    zero_below most = omega arith
+
+    by : {C : Type 0} {changes : Changes C} {p q : Place C} {x : Member} (most n : ℕ) → n ≤ 18446744073709551615 → (d : Does changes p x q) → counted_on n d ≤ 18446744073709551615
+    by most n l (refused f) = l
+    by most n l (loads f) = zero_below 18446744073709551615
+    by most n l (steps f m) = below (n + 1) 18446744073709551615
+    by most n l (runs {k = k} f i m s) = below (n + k) 18446744073709551615
+    by most n l (collects f) = zero_below 18446744073709551615
+    by most n l (abandons f) = zero_below 18446744073709551615
 
 module _ {C : Type 0} (changes : Changes C) where
   many_then : {i : ℕ} {p q s : Place C} → Many changes i p q → Many changes 1 q s → Many changes (suc i) p s
@@ -78,6 +108,12 @@ module _ {C : Type 0} (changes : Changes C) where
       let (k', one) = comes_made b x before.kept m' t' q' s in
       subst (Reaches a k (suc n)) (sym e) (record { kept = k'; many = many_then before.many one })
 
+  -- the steps that a run has made are counted
+  ran_steps : {a : Standing C} {n : ℕ} {b : Standing C} → a.shot.steps ≤ 18446744073709551615 → Ran changes a n b → b.shot.steps ≡ later a.shot.steps n
+  ran_steps {a = a} l none_made = none_later a.shot.steps 18446744073709551615 l
+  ran_steps {a = a} l (one_more_made {k = k} {b = b} {c = c} {t = t} r s e) =
+      ap (λ (y : Standing C). y.shot.steps) e ∙ ap one_more_step (ran_steps l r) ∙ one_later a.shot.steps k 18446744073709551615
+
   -- a step at the place that a run has come to is refused
   comes_refused : (b : Standing C) (f : ControllerFault) (k : Kept changes b.shot b.register) (m : Running) (a : Ty) → k.loaded ≡ Some (m, a) → Comes changes b (Err f) → Refused (place_of k) (step most_cells)
   comes_refused b f k m a q c = go c.told c.meaning c.owed.free c.step
@@ -110,7 +146,7 @@ module _ {C : Type 0} (changes : Changes C) where
       made_run m t q l r n u z =
           let d : Does changes (place_of k) (run budget (length a.work)) (place_of r.kept) = runs (fine m t q l) within r.many (stops budget made b r.kept n u z x stop) in
           record {
-            after = record { loaded = r.kept.loaded; stands = r.kept.stands; start = k.start; is_new = k.is_new; reached = then_does k.reached d };
+            after = record { loaded = r.kept.loaded; stands = r.kept.stands; start = k.start; is_new = k.is_new; reached = then_does k.reached d; counts = ran_steps (subst (λ n. n ≤ 18446744073709551615) (sym k.counts) (small k.reached)) ran ∙ ap (λ n. later n made) k.counts };
             does = d;
             refusal = ((λ e. let y : ◌≡◌ {A = ℕ} 0 1 = cc in absurd (omega arith)), (λ y. absurd (fine m t q l y)));
           }

@@ -20,7 +20,7 @@ wants (Some (m, a)) r room refused s e = λ l n. let w = s.2 room l n in ((λ x.
 
 module _ {R : Type 0} (kind : Ghosts R) where
   abbrev sound_here : (h : Held) (r : R) → Kept kind.changes h (kind.meaning r) → IsSound kind h r
-  sound_here h r k = record { loaded = k.loaded; stands = k.stands; sound = sound (place_of k) (kept_place k) }
+  sound_here h r k = record { kept = k; sound = sound (place_of k) (kept_place k) }
 
   pub every_controller : EveryControllerIsSound kind
   every_controller c = ∥∥₁_map c.reached (sound_here (held c.shot) c.register)

@@ -15,6 +15,7 @@ use Rattle.controller.specs.declared.faults.ControllerFault.TheVariants.{ShortTa
 use Rattle.registers.specs.Telling.{Told}
 use Rattle.controller.specs.Faults.{ready_answer}
 use Rattle.controller.specs.Shots.{Held}
+use Rattle.controller.specs.Stepping.{one_more as one_more_step}
 use Rattle.controller.specs.Stepping.{Made, stepped, once_ready, step_made, held_after}
 use Rattle.controller.specs.Keeping.{Holds, Stands, place, Kept, place_of, Keeps}
 use Rattle.controller.proofs.Keeping.{loaded_stands}
@@ -39,22 +40,23 @@ module _ {C : Type 0} (changes : Changes C) (t : Told C) (free : Fresh t.meaning
 
   after_done : (m : Running) (a : Ty) (q : k.loaded ≡ Some (m, a)) (s : Holds h m a) (room : ℕ) → 1024 ≤ room → (x : Made C)
       → Done changes t free (kept_term k m a q) h.cells s.means s.claim_nothing x → StepKeeps room (Ok x)
-  after_done m a q s room l x d = record { after = after; does = does_step; refusal = ((λ e. let z : ◌≡◌ {A = ℕ} 0 1 = cc in absurd (omega arith)), (λ n. absurd (fine room l n))) }
+  after_done m a q s room l x d =
+      let does_step : Does changes (place_of k) (step room) (place (Some (d.next, a)) x.register) = steps (fine room l) (one_more q (fine 1024 (omega arith)) d.makes no_more) in
+      record {
+        after = record {
+          loaded = Some (d.next, a);
+          stands = record { means = d.next_means; claim_nothing = d.next_bare; kinds = s.kinds };
+          start = k.start;
+          is_new = k.is_new;
+          reached = then_does k.reached does_step;
+          counts = ap one_more_step k.counts;
+        };
+        does = does_step;
+        refusal = ((λ e. let z : ◌≡◌ {A = ℕ} 0 1 = cc in absurd (omega arith)), (λ n. absurd (fine room l n)));
+      }
     where
       fine : (w : ℕ) → 1024 ≤ w → Refused (place_of k) (step w) → ⊥
       fine w l n = d.not_refused w l (subst (λ o. Refused (place o t.meaning) (step w)) q n)
-
-      does_step : Does changes (place_of k) (step room) (place (Some (d.next, a)) x.register)
-      does_step = steps (fine room l) (one_more q (fine 1024 (omega arith)) d.makes no_more)
-
-      after : Kept changes (held_after h x) x.register
-      after = record {
-        loaded = Some (d.next, a);
-        stands = record { means = d.next_means; claim_nothing = d.next_bare; kinds = s.kinds };
-        start = k.start;
-        is_new = k.is_new;
-        reached = then_does k.reached does_step;
-      }
 
   pub after_stepping : (m : Running) (a : Ty) (q : k.loaded ≡ Some (m, a)) (s : Holds h m a) (room : ℕ) → 1024 ≤ room → (x : Result (Made C) ControllerFault)
       → Comes changes t free (kept_term k m a q) h.cells s.means s.claim_nothing x → StepKeeps room x

@@ -13,6 +13,7 @@ use Rattle.rows.specs.Places.{Place, New}
 use Rattle.rows.specs.Refusing.{Refused}
 use Rattle.rows.specs.Doing.{Does}
 use Rattle.rows.specs.Rows.{Reached}
+use Rattle.controller.specs.Counting.{steps_since_load}
 use Rattle.controller.specs.Shots.{Held, held, nothing_held}
 use Rattle.controller.specs.declared.shot.Shot.{Shot}
 
@@ -30,13 +31,15 @@ Stands h (Some (m, a)) = Holds h m a
 abbrev pub place : {C : Type 0} → Option (Running × Ty) → Meaning C → Place C
 place loaded register = record { loaded = loaded; register = register }
 
--- The invariant: what is held and what the register means are a place that some row leads to from a new controller.
+-- The invariant: what is held and what the register means are a place that some row leads to from a new controller, and the steps
+-- that are held are those of the row since its last load.
 pub record Kept {C : Type 0} (changes : Changes C) (h : Held) (r : Meaning C) : Type 0 where
   pub loaded : Option (Running × Ty)
   pub stands : Stands h loaded
   pub start : Place C
   pub is_new : New changes start
   pub reached : Reached changes start (place loaded r)
+  pub counts : h.steps ≡ steps_since_load reached
 
 abbrev pub place_of : {C : Type 0} {changes : Changes C} {h : Held} {r : Meaning C} → Kept changes h r → Place C
 place_of {r = r} k = place k.loaded r

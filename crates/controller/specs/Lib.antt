@@ -1,5 +1,6 @@
 pub mod Asking
 pub mod Calls
+pub mod Counting
 pub mod Faults
 pub mod Keeping
 pub mod Letting

@@ -8,16 +8,16 @@ use Rattle.registers.specs.Meaning.{Meaning, counted}
 use Rattle.rows.specs.Asking.{SpendsPulse, PreparesQubit, Overflows}
 use Rattle.rows.specs.Refusing.{most_cells}
 use Rattle.rows.specs.Sound.{Sound}
-use Rattle.controller.specs.Keeping.{Stands, place}
+use Rattle.controller.specs.Keeping.{Kept, place_of}
 use Rattle.controller.specs.Shots.{Held, held}
 use Rattle.controller.specs.declared.control.Controller.{Controller}
 
 module _ {R : Type 0} (kind : Ghosts R) where
-  -- What is held is nothing, or a running term with its loaded type, and the place that this and the register make is sound.
+  -- Some row leads to where what is held and the register are, with as many steps since its last load as are held, and the place is
+  -- sound.
   pub record IsSound (h : Held) (r : R) : Type 0 where
-    pub loaded : Option (Running × Ty)
-    pub stands : Stands h loaded
-    pub sound : Sound (place loaded (kind.meaning r))
+    pub kept : Kept kind.changes h (kind.meaning r)
+    pub sound : Sound (place_of kept)
 
   -- Wherever a controller of this kind of register is, it is sound.
   abbrev pub EveryControllerIsSound : Type 0
@@ -33,7 +33,7 @@ WantStops (Some (m, a)) r room refused = most_cells ≤ room → (Value m → �
 -- The same of a call of step, from what is held and a register, which are sound.
 pub record StepIsSound {R : Type 0} (kind : Ghosts R) (h : Held) (r : R) (room : ℕ) (refused : Bool) : Type 0 where
   pub before : IsSound kind h r
-  pub stops : WantStops before.loaded (kind.meaning r) room refused
+  pub stops : WantStops before.kept.loaded (kind.meaning r) room refused
 
 abbrev pub OnlyWantStopsStep : {R : Type 0} → Ghosts R → Held → R → ℕ → Bool → Type 0
 OnlyWantStopsStep kind h r room refused = ∥ StepIsSound kind h r room refused ∥₁

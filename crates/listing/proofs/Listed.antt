@@ -114,7 +114,7 @@ module _ (end : Stage Tape) where
   loaded_is_listed : (types : List TypeCell) (terms : List TermCell) (x : Result ℕ Refusal) (s : Shot)
       → Ended end (collected_from (ran_from (after_load types terms (begin nothing_held) x)).1).1
       → IsMade (run_made (Some (replied Loaded x)) (Some (ran_from (after_load types terms (begin nothing_held) x)).0))
-          (cells_collected (Some (collected_from (ran_from (after_load types terms (begin nothing_held) x)).1).0)) end s
+      (cells_collected (Some (collected_from (ran_from (after_load types terms (begin nothing_held) x)).1).0)) end s
       → listing_lines s ≡ load_listed types terms x
   loaded_is_listed types terms (Ok n) s e m =
       let from = λ (w : List TermCell). run_of tape_changes tape_tells 1000 (record { shot = program_held types terms; register = (begin nothing_held).register; work = w }) in
@@ -128,7 +128,7 @@ module _ (end : Stage Tape) where
   checked_is_listed : (types : List TypeCell) (terms : List TermCell) (v : Verdict) (s : Shot)
       → Ended end (collected_from (ran_from (load_turn tape_changes tape_tells types terms (begin nothing_held) v).1).1).1
       → IsMade (run_made (Some (load_turn tape_changes tape_tells types terms (begin nothing_held) v).0) (Some (ran_from (load_turn tape_changes tape_tells types terms (begin nothing_held) v).1).0))
-          (cells_collected (Some (collected_from (ran_from (load_turn tape_changes tape_tells types terms (begin nothing_held) v).1).1).0)) end s
+      (cells_collected (Some (collected_from (ran_from (load_turn tape_changes tape_tells types terms (begin nothing_held) v).1).1).0)) end s
       → listing_lines s ≡ check_listed types terms v
   checked_is_listed types terms (Ok u) s e m = loaded_is_listed types terms (load_answer tape_makes nothing_held terms) s e m
   checked_is_listed types terms (Err f) s e m = ap listing_lines m

@@ -4,3 +4,4 @@ pub mod Listed
 pub mod Listing
 pub mod Playing
 pub mod Samples
+pub mod Shots

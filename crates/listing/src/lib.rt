@@ -6,5 +6,5 @@ mod promises;
 mod shots;
 
 pub use lines::listing;
-pub use promises::{listings_are_read_back, samples_are_listed};
+pub use promises::{listings_are_read_back, samples_are_listed, texts_are_listed};
 pub use shots::{MOST_BYTES, Shot, play};

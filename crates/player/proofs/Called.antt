@@ -128,7 +128,7 @@ module _ {R : Type 0} (kind : Ghosts R) where
           let few_kinds = front_length kind_room m kinds f in (
             p.1,
             ap (λ h. stage h r' [] (v ++ drop n value) (k ++ drop m kinds)) p.0
-            ∙ ap₂ (λ a b. stage nothing_held r' [] a b) (begun_front (held s).cells v value n (omega arith) t.0 (q ∙ few)) (begun_front (held s).kinds k kinds m (omega arith) t.1 (u ∙ few_kinds)),
+                ∙ ap₂ (λ a b. stage nothing_held r' [] a b) (begun_front (held s).cells v value n (omega arith) t.0 (q ∙ few)) (begun_front (held s).kinds k kinds m (omega arith) t.1 (u ∙ few_kinds)),
           )
       leads (Err c) p t =
           ap₂ (λ h z. stage h z [] (v ++ drop n value) (k ++ drop m kinds)) (ap held p.0) p.1

@@ -11,12 +11,13 @@ use Rattle.rows.specs.Members.{Member}
 use Rattle.rows.specs.Places.{Place, New}
 use Rattle.rows.specs.Refusing.{Refused}
 use Rattle.rows.specs.Doing.{Does}
-use Rattle.rows.specs.Rows.{Row, row_end, row_next, Reached, at_start, then_does}
+use Rattle.rows.specs.Rows.{Row, row_end, row_next, Reached, then_does}
 use Rattle.rows.proofs.Sound.{every_place_is_sound}
 use Rattle.controller.specs.declared.control.Controller.{Controller}
 use Rattle.controller.specs.declared.faults.Refusal.{Refusal}
-use Rattle.controller.specs.Shots.{held, nothing_held}
-use Rattle.controller.specs.Keeping.{Stands, place, Kept, place_of}
+use Rattle.controller.specs.Shots.{Held, held, nothing_held}
+use Rattle.controller.proofs.Keeping.{kept_new}
+use Rattle.controller.specs.Keeping.{Kept, place_of}
 use Rattle.player.specs.declared.turns.Turn.{Turn}
 use Rattle.player.specs.declared.turns.TurnFault.{TurnFault}
 use Rattle.player.specs.declared.turns.TurnFault.TheVariants.{Refused as RefusedTurn}
@@ -102,22 +103,19 @@ module _ {R : Type 0} (kind : Ghosts R) (start : Stage R) where
   abbrev pub RowOf : List Turn → List (Option Reply) → List (Option Reply) → Stage R → Type 0
   RowOf row old new a = RowPlayed kind start row old new a
 
-  kept_so_far : (row : List Turn) (old new : List (Option Reply)) (a : Stage R) → RowOf row old new a → Kept kind.changes a.shot (kind.meaning a.register)
-  kept_so_far row old new a k = moved k.last.register k.shows.register (reached_of at_start k.played)
-    where
-      moved : (m : Meaning kind.Content) → m ≡ kind.meaning a.register → Reached kind.changes (first_place kind.changes (kind.meaning start.register)) (place k.last.loaded m) → Kept kind.changes a.shot (kind.meaning a.register)
-      moved m e r = record {
-        loaded = k.last.loaded;
-        stands = k.shows.stands;
-        start = first_place kind.changes (kind.meaning start.register);
-        is_new = k.is_new;
-        reached = subst (λ z. Reached kind.changes (first_place kind.changes (kind.meaning start.register)) (place k.last.loaded z)) e r;
-      }
+  -- a new controller is kept at its first place
+  new_kept : {h : Held} {m : Meaning kind.Content} → h ≡ nothing_held → m ≡ after_clear kind.changes (kind.meaning start.register) → (kind.meaning start.register).capacity ≤ 32
+      → (k : Kept kind.changes h m) × (place_of k ≡ first_place kind.changes (kind.meaning start.register))
+  new_kept {h = h} {m = m} e f small =
+      let first = first_place kind.changes (kind.meaning start.register) in
+      subst (λ (z : Held). (k : Kept kind.changes z m) × (place_of k ≡ first)) (sym e)
+      (subst (λ (z : Meaning kind.Content). (k : Kept kind.changes nothing_held z) × (place_of k ≡ first)) (sym f) (kept_new kind.changes (kind.meaning start.register) small, refl))
 
   -- a new controller has played nothing
   pub none_yet : (old : List (Option Reply)) (a : Stage R) → start.shot ≡ nothing_held → (kind.meaning start.register).capacity ≤ 32
       → a ≡ stage start.shot a.register start.work start.value start.kinds → kind.meaning a.register ≡ after_clear kind.changes (kind.meaning start.register) → RowOf [] old old a
   none_yet old a s small e cleared =
+      let begins = new_kept s cleared small in
       let is_new : New kind.changes (first_place kind.changes (kind.meaning start.register)) = record { nothing = refl; given = kind.meaning start.register; small = small; cleared = refl } in
       subst (λ z. RowOf [] old old z) (sym e) (record {
         cleared = a.register;
@@ -127,7 +125,8 @@ module _ {R : Type 0} (kind : Ghosts R) (start : Stage R) where
         places = first_place kind.changes (kind.meaning start.register) ∷ [];
         last = first_place kind.changes (kind.meaning start.register);
         played = none_played;
-        shows = record { stands = s; register = sym cleared };
+        kept = begins.0;
+        at_last = begins.1;
         is_new = is_new;
         is_row = row_end;
         sound = every_place_is_sound kind.Content kind.changes (first_place kind.changes (kind.meaning start.register)) [] (first_place kind.changes (kind.meaning start.register) ∷ []) is_new row_end;
@@ -135,8 +134,10 @@ module _ {R : Type 0} (kind : Ghosts R) (start : Stage R) where
       })
 
   -- a turn that is no member leaves the place
-  same_shown : {a b : Stage R} {p : Place kind.Content} → b.shot ≡ a.shot → b.register ≡ a.register → Shows kind a p → Shows kind b p
-  same_shown {p = p} e f z = record { stands = subst (λ h. Stands h p.loaded) (sym e) z.stands; register = z.register ∙ ap kind.meaning (sym f) }
+  same_kept : {h h' : Held} {r r' : R} (p : Place kind.Content) → h' ≡ h → r' ≡ r → (k : Kept kind.changes h (kind.meaning r)) → place_of k ≡ p
+      → (k' : Kept kind.changes h' (kind.meaning r')) × (place_of k' ≡ p)
+  same_kept {h = h} {h' = h'} {r = r} {r' = r'} p e f k q =
+      subst (λ z. (k' : Kept kind.changes z (kind.meaning r')) × (place_of k' ≡ p)) (sym e) (subst (λ z. (k' : Kept kind.changes h (kind.meaning z)) × (place_of k' ≡ p)) (sym f) (k, q))
 
   -- one turn more
   one_more : (n : ℕ) (row : List Turn) (old new : List (Option Reply)) (c c' : Controller R kind) (work work' value value' : List TermCell) (kinds kinds' : List TypeCell) (t : Turn) (y : Reply)
@@ -144,12 +145,10 @@ module _ {R : Type 0} (kind : Ghosts R) (start : Stage R) where
       → TurnMakes kind t (stage (held c.shot) c.register work value kinds) (stage (held c'.shot) c'.register work' value' kinds') y
       → TurnPlayed kind (rooms_of start) t c c' y → length row ≡ n → n < length old
       → RowOf (row ++ t ∷ []) old (set new n (Some y)) (stage (held c'.shot) c'.register work' value' kinds')
-  unfolding kept_so_far
   one_more n row old new c c' work work' value value' kinds kinds' t y k makes (inl (x, i, keeps)) s l =
-      let before = kept_so_far row old new (stage (held c.shot) c.register work value kinds) k in
-      let after = keeps before in
-      let does = subst (λ m. Does kind.changes (place k.last.loaded m) x (place_of after.after)) (sym k.shows.register) after.does in
-      let refusal = subst (λ m. (is_refused y ≡ true) ↔ Refused (place k.last.loaded m) x) (sym k.shows.register) after.refusal in
+      let after = keeps k.kept in
+      let does = subst (λ p. Does kind.changes p x (place_of after.after)) k.at_last after.does in
+      let refusal = subst (λ p. (is_refused y ≡ true) ↔ Refused p x) k.at_last after.refusal in
       let shows : Shows kind (stage (held c'.shot) c'.register work' value' kinds') (place_of after.after) = record { stands = after.after.stands; register = refl } in
       let played = then_one t y k.played i makes does shows refusal in
       record {
@@ -160,7 +159,8 @@ module _ {R : Type 0} (kind : Ghosts R) (start : Stage R) where
         places = k.places ++ place_of after.after ∷ [];
         last = place_of after.after;
         played = played;
-        shows = shows;
+        kept = after.after;
+        at_last = refl;
         is_new = k.is_new;
         is_row = row_of played;
         sound = every_place_is_sound kind.Content kind.changes (first_place kind.changes (kind.meaning start.register)) _ _ k.is_new (row_of played);
@@ -174,7 +174,8 @@ module _ {R : Type 0} (kind : Ghosts R) (start : Stage R) where
     places = k.places;
     last = k.last;
     played = then_not_accepted t y k.played not makes;
-    shows = same_shown (ap held e) f k.shows;
+    kept = (same_kept k.last (ap held e) f k.kept k.at_last).0;
+    at_last = (same_kept k.last (ap held e) f k.kept k.at_last).1;
     is_new = k.is_new;
     is_row = k.is_row;
     sound = k.sound;

@@ -8,7 +8,7 @@ use Rattle.rows.specs.Refusing.{Refused}
 use Rattle.rows.specs.Doing.{Does}
 use Rattle.rows.specs.Rows.{Row, AtEach}
 use Rattle.rows.specs.Sound.{Sound}
-use Rattle.controller.specs.Keeping.{Stands, place}
+use Rattle.controller.specs.Keeping.{Stands, place, Kept, place_of}
 use Rattle.player.specs.declared.turns.Turn.{Turn}
 use Rattle.player.specs.Stages.{Stage, Reply, stage, TurnMakes}
 use Rattle.player.specs.Turns.{Rooms, rooms, IsMember, NotPlayed, is_refused}
@@ -38,7 +38,7 @@ abbrev pub rooms_of : {R : Type 0} → Stage R → Rooms
 rooms_of a = rooms (length a.work) (length a.value) (length a.kinds)
 
 -- A row is played from a stage whose register is then cleared, and a new controller's place, to a stage and the place that it
--- shows. Every place that it leads through is sound. The replies are at the front of their table, whose rest is as it was.
+-- shows, which is kept. Every place that it leads through is sound. The replies are at the front of their table, whose rest is as it was.
 pub record RowPlayed {R : Type 0} (kind : Ghosts R) (start : Stage R) (row : List Turn) (old new : List (Option Reply)) (end : Stage R) : Type 0 where
   pub cleared : R
   pub is_cleared : kind.meaning cleared ≡ after_clear kind.changes (kind.meaning start.register)
@@ -48,7 +48,8 @@ pub record RowPlayed {R : Type 0} (kind : Ghosts R) (start : Stage R) (row : Lis
   pub last : Place kind.Content
   pub played : Played kind (rooms_of start) (stage start.shot cleared start.work start.value start.kinds) (first_place kind.changes (kind.meaning start.register))
       row replies members places end last
-  pub shows : Shows kind end last
+  pub kept : Kept kind.changes end.shot (kind.meaning end.register)
+  pub at_last : place_of kept ≡ last
   pub is_new : New kind.changes (first_place kind.changes (kind.meaning start.register))
   pub is_row : Row kind.changes (first_place kind.changes (kind.meaning start.register)) members places
   pub sound : AtEach Sound places

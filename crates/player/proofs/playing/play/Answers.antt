@@ -54,7 +54,7 @@ returns-clause-played g c =
     let l = c.loop-i in
     let i = l.invariant in
     subst (λ ts. RowOf g.R.Register (stage nothing_held c.args.register c.args.work.now c.args.value.now c.args.kinds.now) ts c.args.replies.now l.replies
-        (stage (held l.controller.shot) l.controller.register l.work l.value l.kinds))
+    (stage (held l.controller.shot) l.controller.register l.work l.value l.kinds))
     (ended _ _ _ c.args.row.now _ i.places i.ahead c.in-None.ensures.steps.0) i.played
 
 pub returns-clause-settled : goal.returns-clause-settled

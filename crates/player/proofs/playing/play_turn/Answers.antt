@@ -15,7 +15,7 @@ returns-in-Load-clause-made g c =
     let n = c.load.new.controller in
     turn_makes g.R.Register a.turn.now _ _ _ c.load.result c.in-Load.is
     (load_beside g.R.Register c.in-Load.types.now c.in-Load.terms.now a.work.now a.value.now a.kinds.now (stage (held s.shot) s.register [] [] []) (stage (held n.shot) n.register [] [] [])
-        c.load.result (program_verdict c.in-Load.types.now c.in-Load.terms.now) c.load.ensures.reply)
+    c.load.result (program_verdict c.in-Load.types.now c.in-Load.terms.now) c.load.ensures.reply)
 
 pub returns-in-Load-clause-played : goal.returns-in-Load-clause-played
 returns-in-Load-clause-played g c =
@@ -58,7 +58,7 @@ returns-in-Collect-clause-made g c =
     let n = c.collect.new in
     turn_makes g.R.Register a.turn.now _ _ _ c.collect.result c.in-Collect.is
     (collect_beside g.R.Register c.in-Collect.room c.in-Collect.kind_room a.work.now (stage (held s.shot) s.register [] a.value.now a.kinds.now)
-        (stage (held n.controller.shot) n.controller.register [] n.value n.kinds) c.collect.result c.collect.ensures.made)
+    (stage (held n.controller.shot) n.controller.register [] n.value n.kinds) c.collect.result c.collect.ensures.made)
 
 pub returns-in-Collect-clause-played : goal.returns-in-Collect-clause-played
 returns-in-Collect-clause-played g c =
