@@ -3,6 +3,7 @@ pub mod Determinism
 pub mod Duplicable
 pub mod Erasure
 pub mod Failing
+pub mod FirstTree
 pub mod Lemmas
 pub mod Narrowing
 pub mod NewCells

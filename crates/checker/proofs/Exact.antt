@@ -20,12 +20,12 @@ use Rattle.verdict.specs.Judging.{verdict}
 use Rattle.verdict.proofs.Accepting.{then_accepted}
 use Rattle.verdict.proofs.Exact.{derivable}
 
-alone : (ms : List (Term ℕ)) → length ms ≡ 1 → flat_map placed_cells ms ≡ placed_cells (top no_term ms)
+pub alone : (ms : List (Term ℕ)) → length ms ≡ 1 → flat_map placed_cells ms ≡ placed_cells (top no_term ms)
 alone [] e = absurd (omega arith)
 alone (m ∷ []) e = append-nil (placed_cells m)
 alone (m ∷ n ∷ ms) e = absurd (omega arith)
 
-stores : (types : List TypeCell) (terms : List TermCell) → Passed types terms → Stores types terms (meaning types terms 0)
+pub stores : (types : List TypeCell) (terms : List TermCell) → Passed types terms → Stores types terms (meaning types terms 0)
 stores types terms p =
     let t = p.tested in
     let w = written terms t.terms_stand in

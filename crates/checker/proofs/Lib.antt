@@ -9,5 +9,6 @@ pub mod Nodes
 pub mod PartPlaces
 pub mod Parts
 pub mod Passing
+pub mod Sheet
 pub mod Showing
 pub mod Trees

@@ -31,6 +31,12 @@ pub record Passed (types : List TypeCell) (terms : List TermCell) : Type 0 where
   pub tested : Tested types terms
   pub one : height arity terms ≡ 1
 
+pub allowed_all : (cs : List TermCell) → T (every storable cs) → T (every allowed cs)
+allowed_all [] h = tt
+allowed_all (c ∷ cs) h =
+    let p = both (storable c) (every storable cs) h in
+    subst T (sym (and_from (allowed c) (every allowed cs) (T_true _ (both (allowed c) (not (eqb c.op 113)) p.0).0) (T_true _ (allowed_all cs p.1)))) tt
+
 pub passed : (types : List TypeCell) (terms : List TermCell) → tables_tested types terms ≡ accepted → Passed types terms
 passed types terms h =
     let a = (must_accepted (leb (length types) 256) (fault TooManyCells 256) _).0 h in
@@ -53,12 +59,6 @@ passed types terms h =
       };
       one = w.1;
     }
-  where
-    allowed_all : (cs : List TermCell) → T (every storable cs) → T (every allowed cs)
-    allowed_all [] h = tt
-    allowed_all (c ∷ cs) h =
-        let p = both (storable c) (every storable cs) h in
-        subst T (sym (and_from (allowed c) (every allowed cs) (T_true _ (both (allowed c) (not (eqb c.op 113)) p.0).0) (T_true _ (allowed_all cs p.1)))) tt
 
 -- a term's cells are one tree
 pub one_tree_ends : (m : Term ℕ) (terms : List TermCell) → terms ≡ placed_cells m → ends arity 1 terms 0 ≡ Some (length terms)

@@ -4,6 +4,7 @@ pub mod Judging
 pub mod Meaning
 pub mod Rules
 pub mod Scoping
+pub mod Sheet
 pub mod Tables
 pub mod Tested
 pub mod Worked

@@ -3,6 +3,7 @@
 ghost use Rattle.std.specs.Prelude.{◌≡◌, ◌↔◌, true, is_ok, IfOk};
 ghost use Rattle.checker.specs.Accepting.{CheckingIsExact, IsDerivable, accepts, program_verdict};
 ghost use Rattle.checker.specs.Judging.{verdict_of};
+ghost use Rattle.checker.specs.Sheet.{FirstRowAnswers};
 ghost use Rattle.checker.specs.Worked.{WorkedPrograms};
 
 use crate::judging::judge_term;
@@ -48,6 +49,14 @@ pub fn check<'a>(types: &'a [TypeCell], terms: &'a [TermCell]) -> Result<Accepte
 /// Two tables are accepted just where they store a term that has a derivation with its claims, within the limits.
 pub fn checking_is_exact() -> u8
     ensures { CheckingIsExact }
+{
+    0
+}
+
+/// The verdict on a program is the first row of the sheet that holds for it: acceptance where none holds, and else the
+/// refusal by one, at its cell, before which none does.
+pub fn the_first_row_answers() -> u8
+    ensures { FirstRowAnswers }
 {
     0
 }

@@ -73,16 +73,16 @@ used_has : {γ : Context} {m : Term Ty} {t : Ty} → Derives Claimed γ m t → 
 used_has {m = m} d x u = in_domain Claimed x d (used_free x m u)
 
 module _ (c : Ty) (n : ℕ) (t : Ty) (q : c ≡ bangs n t) where
-  core_is : core c ≡ core t
+  pub core_is : core c ≡ core t
   core_is = ap core q ∙ core_bangs n t
 
-  first_is : first c ≡ first t
+  pub first_is : first c ≡ first t
   first_is = ap first q ∙ first_bangs n t
 
-  second_is : second c ≡ second t
+  pub second_is : second c ≡ second t
   second_is = ap second q ∙ second_bangs n t
 
-  marks_is : marks t ≡ 0 → marks c ≡ n
+  pub marks_is : marks t ≡ 0 → marks c ≡ n
   marks_is e = marks_of c n t e q
 
 infixr 3 ◌&◌

@@ -1,6 +1,10 @@
 pub mod Accepting
 pub mod Complete
+pub mod Definite
 pub mod Exact
+pub mod Fitting
+pub mod Order
 pub mod Parting
+pub mod Sheet
 pub mod Sound
 pub mod Uses

@@ -89,7 +89,7 @@ pub copyable_duplicable : (o : Option Ty) → Has o → Copyable o → Duplicabl
 copyable_duplicable None h d = h
 copyable_duplicable (Some a) h d = d
 
-duplicable_exact : (a : Ty) → T (duplicable a) ↔ Duplicable a
+pub duplicable_exact : (a : Ty) → T (duplicable a) ↔ Duplicable a
 duplicable_exact bit = Iff.rfl
 duplicable_exact qbit = Iff.rfl
 duplicable_exact unit = Iff.rfl
@@ -97,7 +97,7 @@ duplicable_exact (bang a) = Iff.rfl
 duplicable_exact (arrow a b) = Iff.rfl
 duplicable_exact (tensor a b) = Iff.rfl
 
-implied : (a b : Bool) → T (not a || b) → T a → T b
+pub implied : (a b : Bool) → T (not a || b) → T a → T b
 implied true b h k = h
 implied false b h k = absurd k
 

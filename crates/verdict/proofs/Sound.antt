@@ -19,7 +19,7 @@ use Rattle.calculus.proofs.Subtyping.{under_marks_is}
 use Rattle.verdict.proofs.Uses.{in_left, in_right, free_used}
 use Rattle.verdict.proofs.Parting.{in_domain, copyable, copyable_duplicable, Agrees, agrees_inside, parted, left_agrees, right_agrees}
 
-variable_fitted : (c : Ty) (o : Option Ty) → T (variable_fits o c) → (a : Ty) × (o ≡ Some a) × T (subtype a c)
+pub variable_fitted : (c : Ty) (o : Option Ty) → T (variable_fits o c) → (a : Ty) × (o ≡ Some a) × T (subtype a c)
 variable_fitted c None h = elim h [ ]
 variable_fitted c (Some a) h = (a, refl, h)
 

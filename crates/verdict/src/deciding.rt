@@ -1,6 +1,7 @@
 //! What the verdict decides. Each function stands for a theorem: its contract is the theorem's statement.
 
 ghost use Rattle.verdict.specs.Judging.{AcceptanceIsDerivability, AcceptanceIsDerivabilityBelow};
+ghost use Rattle.verdict.specs.Sheet.{FirstRowAnswers};
 ghost use Rattle.verdict.specs.Uses.{UsesAreFree};
 ghost use Rattle.verdict.specs.Worked.{WorkedRows};
 
@@ -14,6 +15,14 @@ pub fn acceptance_is_derivability() -> u8
 /// The same for a term below binders, in the context of their types.
 pub fn acceptance_is_derivability_below() -> u8
     ensures { AcceptanceIsDerivabilityBelow }
+{
+    0
+}
+
+/// The verdict on a term is the first row of the sheet that holds for it: acceptance where none holds, and else the
+/// refusal by one, at its cell, before which none does.
+pub fn the_first_row_answers() -> u8
+    ensures { FirstRowAnswers }
 {
     0
 }

@@ -5,7 +5,7 @@ mod deciding;
 mod faults;
 
 pub use deciding::{
-    acceptance_is_derivability, acceptance_is_derivability_below, uses_are_free,
-    worked_terms_are_judged,
+    acceptance_is_derivability, acceptance_is_derivability_below, the_first_row_answers,
+    uses_are_free, worked_terms_are_judged,
 };
 pub use faults::{CheckFault, CheckReason};
