@@ -1,9 +1,9 @@
 -- The term that cells begin with, by where its tree ends.
-use Rattle.std.proofs.Common.{◌≡◌, ℕ, zero, suc, ◌+◌, ◌-◌, T, List, [], ◌∷◌, ◌++◌, length, take, drop, Some, sym, ap, ◌∙◌, subst, arith}
+use Rattle.std.proofs.Common.{◌≡◌, ℕ, zero, suc, ◌+◌, ◌-◌, ◌<◌, ◌⊎◌, T, eqb, List, [], ◌∷◌, ◌++◌, length, take, drop, Some, None, Option, inl, inr, sym, refl, ap, ◌∙◌, subst, arith}
 use Rattle.std.specs.List.{flat_map}
-use Rattle.std.proofs.lemmas.Bool.{and_from}
-use Rattle.std.proofs.lemmas.List.{append-nil, take-append-drop, length-take-le}
-use Rattle.trees.specs.Reach.{ends}
+use Rattle.std.proofs.lemmas.Bool.{and_from, cond_both, eqb-true, eqb-false}
+use Rattle.std.proofs.lemmas.List.{append-nil, take-append-drop, length-take-le, length-append}
+use Rattle.trees.specs.Reach.{ends, not_one, not_one_tree}
 use Rattle.trees.proofs.Ends.{reach_laws}
 use Rattle.trees.proofs.One.{one_whole, ends_one}
 use Rattle.calculus.specs.declared.cells.TermCell.{TermCell}
@@ -55,3 +55,45 @@ begins cs e h at =
 -- and the end of the tree that a term's cells begin
 pub term_ends : (m : Term ℕ) (cs : List TermCell) → ends arity 1 (placed_cells m ++ cs) 0 ≡ Some (size m)
 term_ends m cs = let z : 0 + size m ≡ size m = omega arith in reaches m cs 0 0 ∙ ap Some z
+
+-- Cells that begin no term, and cells of which some are left over after their first term, which has so many.
+abbrev pub Unfinished : List TermCell → Type 0
+Unfinished cs = (m : Term ℕ) (ds : List TermCell) → cs ≡ placed_cells m ++ ds → ⊥
+
+abbrev pub LeftOver : List TermCell → ℕ → Type 0
+LeftOver cs k = (m : Term ℕ) × (c : TermCell) × (ds : List TermCell) × (cs ≡ placed_cells m ++ (c ∷ ds)) × (size m ≡ k)
+
+-- what the test for exactly one tree has found
+abbrev pub OneFound : List TermCell → Option ℕ → Type 0
+OneFound cs None = (Unfinished cs → ⊥) × ((k : ℕ) → LeftOver cs k → ⊥)
+OneFound cs (Some k) = ((Unfinished cs × (k ≡ 0)) ⊎ LeftOver cs k) × ((j : ℕ) → LeftOver cs j → j ≡ k) × (0 < k → Unfinished cs → ⊥)
+
+module _ (cs : List TermCell) where
+  ended : (m : Term ℕ) (ds : List TermCell) (o : Option ℕ) → cs ≡ placed_cells m ++ ds → ends arity 1 cs 0 ≡ o → Some (size m) ≡ o
+  ended m ds o f e = sym (ap (λ cs. ends arity 1 cs 0) f ∙ term_ends m ds) ∙ e
+
+  same_end : (m : Term ℕ) (ds : List TermCell) (n : ℕ) → cs ≡ placed_cells m ++ ds → ends arity 1 cs 0 ≡ Some n → size m ≡ n
+  same_end m ds n f e = let h = ended m ds (Some n) f e in cc
+
+  found_by_end : T (every allowed cs) → (o : Option ℕ) → ends arity 1 cs 0 ≡ o → OneFound cs (not_one (length cs) o)
+  found_by_end h None e = (inl (none, refl), (λ j l. absurd (none l.0 (l.1 ∷ l.2) l.3)), (λ l. absurd (omega arith)))
+    where
+      none : Unfinished cs
+      none m ds f = let z = ended m ds None f e in cc
+  found_by_end h (Some n) e =
+      let b = begins cs n h e in
+      cond_both (eqb n (length cs)) _ _ (OneFound cs)
+      (λ q. ((λ u. u b.term b.others b.cells), λ k l. too_long l.0 l.1 l.2 l.3 (eqb-true n (length cs) q)))
+      (λ q. (inr (some_left b.term b.others b.cells b.reach (eqb-false n (length cs) q)), (λ j l. let z = same_end l.0 (l.1 ∷ l.2) n l.3 e in let y = l.4 in omega arith), (λ l u. u b.term b.others b.cells)))
+    where
+      too_long : (m : Term ℕ) (c : TermCell) (ds : List TermCell) → cs ≡ placed_cells m ++ (c ∷ ds) → n ≡ length cs → ⊥
+      too_long m c ds f q =
+          let l = same_end m (c ∷ ds) n f e in
+          omega (arith, ap length f, length-append (placed_cells m) (c ∷ ds), cells_counted m)
+
+      some_left : (m : Term ℕ) (ds : List TermCell) → cs ≡ placed_cells m ++ ds → size m ≡ n → (n ≡ length cs → ⊥) → LeftOver cs n
+      some_left m [] f r q = absurd (q (omega (arith, ap length f, length-append (placed_cells m) [], cells_counted m)))
+      some_left m (c ∷ ds) f r q = (m, c, ds, f, r)
+
+  pub one_found : T (every allowed cs) → OneFound cs (not_one_tree arity cs)
+  one_found h = found_by_end h (ends arity 1 cs 0) refl

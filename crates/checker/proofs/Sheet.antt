@@ -1,21 +1,20 @@
 -- The verdict on a program is the first row of the sheet that holds.
-use Rattle.std.proofs.Common.{◌≡◌, ℕ, zero, suc, ◌+◌, ◌<◌, ◌≤◌, ◌⊎◌, Bool, true, false, T, leb, eqb, List, [], ◌∷◌, ◌++◌, length, Some, None, Option, Ok, Err, inl, inr, sym, refl, ap, ◌∙◌, subst, arith}
+use Rattle.std.proofs.Common.{◌≡◌, ℕ, ◌+◌, ◌<◌, ◌≤◌, ◌⊎◌, Bool, true, false, T, leb, List, [], ◌∷◌, ◌++◌, length, Some, None, Option, Ok, Err, inl, inr, sym, refl, ap, ◌∙◌, subst, arith}
 use Rattle.std.specs.List.{flat_map, slice_get}
-use Rattle.std.proofs.lemmas.Bool.{cases_lt, cond_both, leb-true, leb-false, le-leb, ltb-false, le-ltb, eqb-true, eqb-false}
-use Rattle.std.proofs.lemmas.List.{append_assoc, length-append}
+use Rattle.std.proofs.lemmas.Bool.{cases_lt, leb-true, leb-false, le-leb, ltb-false, le-ltb}
+use Rattle.std.proofs.lemmas.List.{append_assoc}
 use Rattle.trees.specs.Failing.{first_failing, none_at}
-use Rattle.trees.specs.Reach.{ends, not_one, not_one_tree}
+use Rattle.trees.specs.Reach.{not_one_tree}
 use Rattle.trees.specs.Whole.{height, whole}
 use Rattle.calculus.specs.declared.cells.TypeCell.{TypeCell}
 use Rattle.calculus.specs.declared.cells.TermCell.{TermCell}
-use Rattle.calculus.specs.Letters.{allowed, arity, kind_arity}
-use Rattle.calculus.specs.Cells.{type_cells, placed_cells}
+use Rattle.calculus.specs.Letters.{arity, kind_arity}
+use Rattle.calculus.specs.Cells.{type_cells}
 use Rattle.calculus.specs.Reading.{every, types_of}
 use Rattle.calculus.specs.Terms.{Term, size}
 use Rattle.calculus.specs.Types.{Ty, bit, qbit, unit, bang, arrow, tensor}
-use Rattle.calculus.proofs.Failing.{all_pass}
-use Rattle.calculus.proofs.FirstTree.{Begins, begins, term_ends}
-use Rattle.calculus.proofs.ReadTerms.{cells_counted}
+use Rattle.calculus.proofs.Failing.{all_pass, FirstFails, first_fails}
+use Rattle.calculus.proofs.FirstTree.{Unfinished, LeftOver, OneFound, one_found}
 use Rattle.calculus.proofs.ReadTypes.{written}
 use Rattle.verdict.specs.Faults.{Verdict, accepted, number_of, fault, must, ◌then◌}
 use Rattle.verdict.specs.Judging.{verdict}
@@ -34,46 +33,6 @@ use Rattle.checker.specs.Tables.{known_kind, storable, claim_in, tables_tested}
 use Rattle.checker.specs.Meaning.{meaning}
 use Rattle.checker.proofs.Exact.{stores, meant_by}
 use Rattle.checker.proofs.Passing.{passed, none_at_accepted, allowed_all}
-
--- Two lists of cells that type cells or term cells begin: what the search for the first cell that fails a test has found.
-module _ {X : Type 0} (f : X → Bool) where
-  abbrev pub FirstFails : List X → ℕ → Option ℕ → Type 0
-  FirstFails cs a None = (j : ℕ) (d : X) → slice_get cs j ≡ Some d → f d ≡ false → ⊥
-  FirstFails cs a (Some n) =
-      (k : ℕ) × (c : X) × (n ≡ a + k) × (slice_get cs k ≡ Some c) × (f c ≡ false) × ((j : ℕ) (d : X) → j < k → slice_get cs j ≡ Some d → f d ≡ false → ⊥)
-
-  passes_on : (c : X) (cs : List X) (a : ℕ) (o : Option ℕ) → f c ≡ true → FirstFails cs (a + 1) o → FirstFails (c ∷ cs) a o
-  passes_on c cs a None e h = elim [
-    | zero ↦ λ d g l. not_T (f d) l (T_from (f d) (rw (cell c d g) at e))
-    | suc j ↦ λ d g l. h j d g l
-  ]
-    where
-      cell : (c d : X) → Some c ≡ Some d → c ≡ d
-      cell c d g = cc
-  passes_on c cs a (Some n) e h = (
-    suc h.0,
-    h.1,
-    (let z = h.2 in omega arith),
-    h.3,
-    h.4,
-    elim [
-      | zero ↦ λ d s g l. not_T (f d) l (T_from (f d) (rw (cell c d g) at e))
-      | suc j ↦ λ d s g l. h.5 j d (omega arith) g l
-    ],
-  )
-    where
-      cell : (c d : X) → Some c ≡ Some d → c ≡ d
-      cell c d g = cc
-
-  pub first_fails : (cs : List X) (a : ℕ) → FirstFails cs a (first_failing f cs a)
-  first_fails [] a = λ j d g l. none_there j d g
-    where
-      none_there : (j : ℕ) (d : X) → slice_get [] j ≡ Some d → ⊥
-      none_there j d g = cc
-  first_fails (c ∷ cs) a =
-      cond_both (f c) _ _ (λ o. FirstFails (c ∷ cs) a o)
-      (λ e. passes_on c cs a (first_failing f cs (a + 1)) e (first_fails cs (a + 1)))
-      (λ e. (0, c, omega arith, refl, e, λ j d l. absurd (omega arith)))
 
 -- types in a row are whole
 type_stands : (a : Ty) (cs : List TypeCell) → (whole kind_arity (type_cells a ++ cs) ≡ whole kind_arity cs) × (height kind_arity (type_cells a ++ cs) ≡ height kind_arity cs + 1)
@@ -198,10 +157,13 @@ module _ (types : List TypeCell) (terms : List TermCell) where
   types_row : {j : ℕ} → TableRow types terms NotWhole type_table j → (ts : List Ty) → types ≡ flat_map type_cells ts → ⊥
   types_row (types_unfinished u) = u
 
-  terms_row : {j : ℕ} → TableRow types terms NotWhole term_table j
-      → ((m : Term ℕ) (cs : List TermCell) → terms ≡ placed_cells m ++ cs → ⊥) ⊎ ((m : Term ℕ) × (c : TermCell) × (cs : List TermCell) × (terms ≡ placed_cells m ++ (c ∷ cs)) × (size m ≡ j))
-  terms_row (term_unfinished u) = inl u
+  terms_row : {j : ℕ} → TableRow types terms NotWhole term_table j → (Unfinished terms × (j ≡ 0)) ⊎ LeftOver terms j
+  terms_row (term_unfinished u) = inl (u, refl)
   terms_row (cells_left_over m c cs f) = inr (m, c, cs, f, refl)
+
+  to_row : (j : ℕ) → (Unfinished terms × (j ≡ 0)) ⊎ LeftOver terms j → TableRow types terms NotWhole term_table j
+  to_row j (inl u) = subst (λ k. TableRow types terms NotWhole term_table k) (sym u.1) (term_unfinished u.0)
+  to_row j (inr l) = subst (λ k. TableRow types terms NotWhole term_table k) l.4 (cells_left_over l.0 l.1 l.2 l.3)
 
   -- the seven tests
   kinds_found : (o : Option ℕ) → FirstFails known_kind types 0 o → Found BadCell type_table o
@@ -240,44 +202,12 @@ module _ (types : List TypeCell) (terms : List TermCell) where
       (λ e j r. types_row r (types_of types) (written types (known, T_from _ e)).0)
       (λ e. (types_unfinished (λ ts f. not_T _ e (T_from _ (ap (whole kind_arity) f ∙ types_stand ts))), λ j h l. absurd (omega arith)))
 
-  -- where the term ends, or that it does not
-  terms_found : T (every allowed terms) → (o : Option ℕ) → ends arity 1 terms 0 ≡ o → Found NotWhole term_table (not_one (length terms) o)
-  terms_found known None e = (
-    term_unfinished (λ m cs f. no_end (size m) (sym e ∙ ap (λ cs. ends arity 1 cs 0) f ∙ term_ends m cs)),
-    λ j h l. absurd (omega arith),
+  terms_found : (o : Option ℕ) → OneFound terms o → Found NotWhole term_table o
+  terms_found None h = λ j r. elim (terms_row r) [ inl u ↦ h.0 u.0 | inr l ↦ h.1 j l ]
+  terms_found (Some k) h = (
+    to_row k h.0,
+    λ j r l. elim (terms_row r) [ inl u ↦ h.2 (omega arith) u.0 | inr g ↦ (let z = h.1 j g in omega arith) ],
   )
-    where
-      no_end : (n : ℕ) → None ≡ Some n → ⊥
-      no_end n e = cc
-  terms_found known (Some n) e =
-      let b = begins terms n known e in
-      cond_both (eqb n (length terms)) _ _ (λ o. Found NotWhole term_table o)
-      (λ f. none_left b (eqb-true n (length terms) f))
-      (λ f. some_left b.term b.others b.cells b.reach (eqb-false n (length terms) f))
-    where
-      same_end : (m : Term ℕ) (cs : List TermCell) → terms ≡ placed_cells m ++ cs → size m ≡ n
-      same_end m cs f = some_is (sym (ap (λ cs. ends arity 1 cs 0) f ∙ term_ends m cs) ∙ e)
-        where
-          some_is : {a b : ℕ} → Some a ≡ Some b → a ≡ b
-          some_is h = cc
-
-      too_long : (m : Term ℕ) (c : TermCell) (cs : List TermCell) → terms ≡ placed_cells m ++ (c ∷ cs) → n ≡ length terms → ⊥
-      too_long m c cs f q =
-          let l = same_end m (c ∷ cs) f in
-          omega (arith, ap length f, length-append (placed_cells m) (c ∷ cs), cells_counted m)
-
-      none_left : Begins terms n → n ≡ length terms → (j : ℕ) → TableRow types terms NotWhole term_table j → ⊥
-      none_left b q j r = elim (terms_row r) [ inl u ↦ u b.term b.others b.cells | inr g ↦ too_long g.0 g.1 g.2 g.3 q ]
-
-      some_left : (m : Term ℕ) (cs : List TermCell) → terms ≡ placed_cells m ++ cs → size m ≡ n → (n ≡ length terms → ⊥) → Found NotWhole term_table (Some n)
-      some_left m [] f r q = absurd (q (omega (arith, ap length f, length-append (placed_cells m) [], cells_counted m)))
-      some_left m (c ∷ cs) f r q = (
-        subst (λ k. TableRow types terms NotWhole term_table k) r (cells_left_over m c cs f),
-        λ j h l. elim (terms_row h) [
-          | inl u ↦ u m (c ∷ cs) f
-          | inr g ↦ (let z = same_end g.0 (g.1 ∷ g.2) g.3 in let y = g.4 in omega arith)
-        ],
-      )
 
   abbrev Claims : Place → Type 0
   Claims = At ClaimOutside term_table
@@ -358,7 +288,7 @@ module _ (types : List TypeCell) (terms : List TermCell) where
       must_stage 44 (At NotWhole type_table) Terms (whole kind_arity types) (fault NotWhole 0) _ (at_rank NotWhole type_table) (terms_late 44 (omega arith))
       (whole_types (all_pass known_kind types 0 known)) (λ _.
       none_stage 45 (At NotWhole term_table) Claims (fault NotWhole) (not_one_tree arity terms) _ (at_rank NotWhole term_table) (claims_late 45 (omega arith))
-      (none_said NotWhole term_table _ (terms_found (allowed_all terms (all_pass storable terms 0 stored)) _ refl)) (λ _.
+      (none_said NotWhole term_table _ (terms_found _ (one_found terms (allowed_all terms (all_pass storable terms 0 stored))))) (λ _.
       none_said ClaimOutside term_table _ (claims_found _ (first_fails (claim_in (length types)) terms 0))))))))
 
   from_rows : (p : Place) → Rows p → Holds types terms p

@@ -4,6 +4,7 @@ pub mod Places
 pub mod Reduction
 pub mod Scans
 pub mod Search
+pub mod Sheet
 pub mod Spelling
 pub mod Standing
 pub mod Tests

@@ -4,5 +4,6 @@ pub mod Finding
 pub mod Laws
 pub mod Samples
 pub mod Search
+pub mod Sheet
 pub mod Steps
 pub mod Words

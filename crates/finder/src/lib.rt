@@ -8,5 +8,5 @@ mod rules;
 
 pub use faults::{FindFault, FindReason};
 pub use finder::{find, past};
-pub use promises::{samples_are_answered, search_is_reduction};
+pub use promises::{samples_are_answered, search_is_reduction, the_first_row_answers};
 pub use rules::Rule;

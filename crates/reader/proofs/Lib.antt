@@ -5,6 +5,7 @@ pub mod Decimals
 pub mod Exacts
 pub mod Forms
 pub mod Marks
+pub mod Sheet
 pub mod Spellings
 pub mod Tables
 pub mod Turns

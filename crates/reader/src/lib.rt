@@ -11,5 +11,5 @@ mod reading;
 mod sections;
 
 pub use faults::{ReadFault, ReadReason};
-pub use promises::{reading_is_exact, samples_are_judged};
+pub use promises::{reading_is_exact, samples_are_judged, the_first_line_answers};
 pub use reading::read;
