@@ -12,7 +12,7 @@ use Rattle.controller.specs.declared.faults.Refusal.{Refusal}
 use Rattle.controller.specs.declared.faults.Stop.{Stop}
 use Rattle.controller.specs.declared.shot.Shot.{Shot}
 use Rattle.registers.specs.Telling.{Told}
-use Rattle.controller.specs.Faults.{ready_answer}
+use Rattle.controller.specs.Faults.{fault_number, ready_answer}
 use Rattle.controller.specs.Shots.{Held, held}
 use Rattle.controller.specs.Stepping.{Made, count_made, placed, step_made, StepLeaves}
 use Rattle.controller.specs.Running.{desk, RunAnswer}
@@ -35,7 +35,7 @@ module _ {R : Type 0} (kind : Ghosts R) where
       → Keeps kind.changes (step room) (held shot) t.meaning (held shot') (kind.meaning register') (is_err result) k
   stepped t free shot shot' register register' work work' k q room result (Ok made) m e l = moved_to l.0 l.1 (ap is_err e) m
   stepped t free shot shot' register register' work work' k q room result (Err f) m e l =
-      moved_to refl refl (ap is_err e) (stays (step room) k (held shot') (kind.meaning register') (ap held l.0) (ap kind.meaning l.1 ∙ sym q) m)
+      moved_to refl refl (ap is_err e) (stays (step room) k (held shot') (kind.meaning register') (ap held l.0) (ap kind.meaning l.1 ∙ sym q) (fault_number f, m.0))
 
   pub step_call : (t : Told kind.Content) (free : Fresh t.meaning t.fresh) (shot shot' : Shot) (register register' : R) (work work' : List TermCell) (k : Kept kind.changes (held shot) t.meaning)
       → t.meaning ≡ kind.meaning register → (result : Result ℕ Refusal)

@@ -32,7 +32,7 @@ value_answered (Ok None) e = refl
 value_answered (Ok (Some y)) e = absurd (false≢true e)
 value_answered (Err f) e = absurd (false≢true e)
 
-abbrev short_for : Held → ℕ → ℕ → Bool
+abbrev pub short_for : Held → ℕ → ℕ → Bool
 short_for h v w = nat_lt v (length h.cells) || nat_lt w (length h.kinds)
 
 -- what the three tests say together
@@ -55,7 +55,7 @@ module _ (cs : List TermCell) (m : Running) (means : Means cs m) where
 either_below : (v n w l : ℕ) → ((nat_lt v n || nat_lt w l) ≡ true) ↔ ((v < n) ⊎ (w < l))
 either_below v n w l = ((λ e. grind arith), (λ x. ⊎_elim (λ (y : v < n). grind arith) (λ (y : w < l). grind arith) x))
 
-short_tables : (h : Held) (v w : ℕ) {m : Running} {a : Ty} → HoldsTerm h m a → (short_for h v w ≡ true) ↔ ((v < size m) ⊎ (w < length (type_cells a)))
+pub short_tables : (h : Held) (v w : ℕ) {m : Running} {a : Ty} → HoldsTerm h m a → (short_for h v w ≡ true) ↔ ((v < size m) ⊎ (w < length (type_cells a)))
 short_tables h v w {m} {a} s =
     subst (λ n. (short_for h v w ≡ true) ↔ ((v < n) ⊎ (w < length (type_cells a)))) (as_long h.cells m s.means)
     (subst (λ l. (short_for h v w ≡ true) ↔ ((v < length h.cells) ⊎ (w < l))) (ap length s.kinds) (either_below v (length h.cells) w (length h.kinds)))

@@ -11,6 +11,7 @@ pub mod Collected
 pub mod Stepping
 pub mod Meant
 pub mod Settled
+pub mod Numbers
 pub mod Ran
 pub mod Calls
 pub mod Sound

@@ -1,7 +1,7 @@
 -- A load is the member of a row: it is refused just where something is loaded or a gate is not made, and else the program's term stands.
-use Rattle.std.specs.Prelude.{◌≡◌, ℕ, ◌≤◌, Bool, true, false, cond, ◌&&◌, ◌||◌, T as True, List, [], ◌∷◌, ◌++◌, length, Some, None, Ok, Err, Option, Result, MatchResult, is_err, is_some, not, ◌==◌}
-use Rattle.std.proofs.lemmas.Bool.{false≢true}
-use Rattle.std.proofs.Common.{ap, ap₂, ◌∙◌, sym, refl, subst, ⊎_elim, arith}
+use Rattle.std.specs.Prelude.{◌≡◌, ℕ, ◌<◌, ◌≤◌, Bool, true, false, cond, ◌&&◌, ◌||◌, T as True, List, [], ◌∷◌, ◌++◌, length, Some, None, Ok, Err, Option, Result, MatchResult, is_err, is_some, not, ◌==◌}
+use Rattle.std.proofs.lemmas.Bool.{false≢true, eqb-true, eq-eqb}
+use Rattle.std.proofs.Common.{ap, ap₂, ◌∙◌, sym, refl, subst, inl, inr, ⊎_elim, arith}
 use Rattle.std.proofs.lemmas.Option.{none-some}
 use Rattle.calculus.specs.declared.gates.Gate.{Gate}
 use Rattle.calculus.specs.declared.gates.Gate.TheVariants.{H, X, Z, S, T, Cnot, Swap, Toffoli}
@@ -12,7 +12,7 @@ use Rattle.calculus.specs.Terms.{Const, bit_of, meas, new, gate, bound, held, Te
 use Rattle.calculus.specs.Cells.{const_op, const_argument, cell_of, type_cells, placed_cells, running_cells, unclaimed}
 use Rattle.calculus.specs.Letters.{allowed}
 use Rattle.calculus.specs.Reading.{type_at, every}
-use Rattle.calculus.proofs.Failing.{all_pass, none_fails}
+use Rattle.calculus.proofs.Failing.{all_pass, none_fails, FirstFails, first_fails}
 use Rattle.calculus.proofs.Reading.{T_true, both}
 use Rattle.calculus.proofs.Stripping.{T_and}
 use Rattle.calculus.proofs.ReadTerms.{cells_counted}
@@ -24,13 +24,19 @@ use Rattle.checker.specs.Tables.{storable}
 use Rattle.checker.proofs.Exact.{meant_by}
 use Rattle.registers.specs.Meaning.{Meaning, Changes}
 use Rattle.rows.specs.Members.{NamesGate, gate_here, gate_lam, gate_fun, gate_arg, gate_left, gate_right, gate_test, gate_then, gate_else, gate_pair, gate_body, Program, load}
-use Rattle.rows.specs.Refusing.{Refused, already_loaded, gate_not_made}
+use Rattle.rows.specs.Refusing.{Refused, already_loaded, gate_not_made, Answers}
+use Rattle.rows.specs.Refusing.{Holds as RowHolds}
+use Rattle.rows.specs.Places.{Place}
+use Rattle.rows.proofs.Sound.{some_none}
+use Rattle.controller.specs.Faults.{number_refused}
 use Rattle.rows.specs.Doing.{loads}
 use Rattle.rows.specs.Rows.{then_does}
 use Rattle.rows.proofs.Made.{check, load_taken}
 use Rattle.controller.specs.declared.faults.ControllerFault.TheVariants.{AlreadyLoaded}
 use Rattle.controller.specs.Faults.{refused}
-use Rattle.controller.specs.Loading.{is_made, first_unmade, count_or_unmade, load_answer}
+use Rattle.controller.specs.Loading.{gate_made, is_made, first_unmade, count_or_unmade, load_answer, NamesUnmade, LoadPlace}
+use Rattle.calculus.specs.Gates.{gate_of}
+use Rattle.std.specs.List.{slice_get}
 use Rattle.controller.specs.declared.faults.Refusal.{Refusal}
 use Rattle.controller.specs.declared.shot.Shot.{Shot}
 use Rattle.controller.specs.Shots.{Held, held as held_by, is_loaded, root_claim, program_held}
@@ -150,6 +156,11 @@ load_refuses makes h terms {l} {o} p q = ap₂ (λ y z. is_err (cond y (refused 
     by false None = refl
     by false (Some c) = refl
 
+-- no row below 32 holds for a load, and none below 33 where nothing is loaded
+lowest_load : {C : Type 0} {p : Place C} {f : ℕ} {x : Program} → RowHolds p f (load x) → (n : ℕ) → f < n → n ≤ 33 → (32 < n → (m : Running) × (a : Ty) × (p.loaded ≡ Some (m, a)) → ⊥) → ⊥
+lowest_load (already_loaded {m = m} {a = a} q) n b l g = g b (m, a, q)
+lowest_load (gate_not_made u h q) n b l g = omega arith
+
 -- The tables of a program: its term's cells, which claim places of the type table.
 module _ (types : List TypeCell) (terms : List TermCell) (x : Program) (placed : Term ℕ)
     (cells : terms ≡ placed_cells placed) (means : x.term ≡ reclaimed (type_at types) placed) (letters : True (every allowed terms)) where
@@ -206,6 +217,27 @@ module _ (types : List TypeCell) (terms : List TermCell) (x : Program) (placed :
                 let c : b ≡ true = e ∙ load_refuses r.makes h terms (ap is_loaded s) f in
                 ⊎_elim (λ y. not_done c (33, gate_not_made (y.0) (y.1) (y.2))) (λ all. absurd (none-some cell (sym (none_unmade r.makes all) ∙ f))) (check r.makes x.term)
 
+  module _ {C : Type 0} {changes : Changes C} {h : Held} {r : Meaning C} (k : Kept changes h r) where
+    -- a load is refused by the lowest row that holds
+    pub loaded_number : Answers (place_of k) (load x) (number_refused (load_answer r.makes h terms))
+    loaded_number = by k.loaded refl k.stands
+      where
+        tested : Bool → Option ℕ → Option ℕ
+        tested l o = number_refused (cond l (refused AlreadyLoaded h.steps) (count_or_unmade o (length terms)))
+
+        said : {l : Bool} {o : Option ℕ} → is_loaded h ≡ l → first_unmade r.makes terms ≡ o → Answers (place_of k) (load x) (tested l o) → Answers (place_of k) (load x) (number_refused (load_answer r.makes h terms))
+        said p q a = subst (Answers (place_of k) (load x)) (sym (ap₂ tested p q)) a
+
+        by : (o : Option (Running × Ty)) → k.loaded ≡ o → Stands h o → Answers (place_of k) (load x) (number_refused (load_answer r.makes h terms))
+        by (Some (m, a)) q s = said (loaded_stands m h (sym s.claim_nothing ∙ s.means.written)) refl (already_loaded q, λ other y b. lowest_load y 32 b (omega arith) (λ z. absurd (omega arith)))
+        by None q s = by_gates (first_unmade r.makes terms) refl
+          where
+            by_gates : (o : Option ℕ) → first_unmade r.makes terms ≡ o → Answers (place_of k) (load x) (number_refused (load_answer r.makes h terms))
+            by_gates None f = said (ap is_loaded s) f (λ number z. load_taken changes (place_of k) q (all_made r.makes f) z)
+            by_gates (Some cell) f = said (ap is_loaded s) f (⊎_elim
+                (λ y. (gate_not_made y.0 y.1 y.2, λ other z b. lowest_load z 33 b (omega arith) (λ _ (m, a, e). some_none e q)))
+                (λ all. absurd (none-some cell (sym (none_unmade r.makes all) ∙ f))) (check r.makes x.term))
+
 -- What an accepted program's tables store is a program, of which each cell is allowed.
 every_storable : (cs : List TermCell) → True (every storable cs) → True (every allowed cs)
 every_storable [] e = tt
@@ -253,3 +285,45 @@ load_call changes meaning types terms a shot shot' register register' result e f
         → Keeps changes (load s.program) (held_by shot) (meaning register) (held_by shot') (meaning register') (is_err x) k
     by s k (Ok y) e f = loaded types terms s.program s.placed s.cells s.means s.letters k (held_by shot') (meaning register') false e (λ _. (f, ap meaning q)) (λ z. absurd (false≢true z))
     by s k (Err y) e f = loaded types terms s.program s.placed s.cells s.means s.letters k (held_by shot') (meaning register') true e (λ z. absurd (false≢true (sym z))) (λ _. (ap held_by f, ap meaning q))
+
+pub load_number : {R C : Type 0} (changes : Changes C) (meaning : R → Meaning C) (types : List TypeCell) (terms : List TermCell) → accepts types terms ≡ true
+    → (shot : Shot) (register : R) (result : Result ℕ Refusal) → result ≡ load_answer (meaning register).makes (held_by shot) terms
+    → (x : Program) × (x.term ≡ term_meant types terms 0) × ((k : Kept changes (held_by shot) (meaning register)) → Answers (place_of k) (load x) (number_refused result))
+load_number changes meaning types terms a shot register result e =
+    let s = accepted_program types terms a in
+    (s.program, s.meant, λ k. subst (λ y. Answers (place_of k) (load s.program) (number_refused y)) (sym e) (loaded_number types terms s.program s.placed s.cells s.means s.letters k))
+
+-- the test of a cell, in words
+unmade_said : (makes : Gate → Bool) (c : TermCell) → is_made makes c ≡ false → NamesUnmade makes c
+unmade_said makes c e = by (c.op == 103) refl e
+  where
+    gate : (o : Option Gate) → gate_made makes o ≡ false → (u : Gate) → o ≡ Some u → makes u ≡ false
+    gate None e u q = absurd (none-some u q)
+    gate (Some v) e u q = subst (λ w. makes w ≡ false) (same_gate q) e
+      where
+        same_gate : {v u : Gate} → Some v ≡ Some u → v ≡ u
+        same_gate q = cc
+
+    by : (b : Bool) → (c.op == 103) ≡ b → cond b (gate_made makes (gate_of c.argument)) true ≡ false → NamesUnmade makes c
+    by true q e = (eqb-true c.op 103 q, gate (gate_of c.argument) e)
+    by false q e = absurd (false≢true (sym e))
+
+unmade_shown : (makes : Gate → Bool) (c : TermCell) → NamesUnmade makes c → is_made makes c ≡ false
+unmade_shown makes c n = ap (λ b. cond b (gate_made makes (gate_of c.argument)) true) (eq-eqb c.op 103 n.0) ∙ gate (gate_of c.argument) n.1
+  where
+    gate : (o : Option Gate) → ((u : Gate) → o ≡ Some u → makes u ≡ false) → gate_made makes o ≡ false
+    gate None f = refl
+    gate (Some u) f = f u refl
+
+pub load_place : (makes : Gate → Bool) (h : Held) (terms : List TermCell) (result : Result ℕ Refusal) → result ≡ load_answer makes h terms → LoadPlace makes h terms result
+load_place makes h terms result e = subst (LoadPlace makes h terms) (sym e) (by (is_loaded h))
+  where
+    found : (o : Option ℕ) → FirstFails (is_made makes) terms 0 o → LoadPlace makes h terms (count_or_unmade o (length terms))
+    found None f = tt
+    found (Some k) f =
+        let z : k ≡ f.0 = (let y = f.2 in omega arith) in
+        inr (refl, (f.1, ap (slice_get terms) z ∙ f.3, unmade_said makes f.1 f.4, λ j d l g n. f.5 j d (omega arith) g (unmade_shown makes d n)))
+
+    by : (l : Bool) → LoadPlace makes h terms (cond l (refused AlreadyLoaded h.steps) (count_or_unmade (first_unmade makes terms) (length terms)))
+    by true = inl (refl, refl)
+    by false = found (first_unmade makes terms) (first_fails (is_made makes) terms 0)

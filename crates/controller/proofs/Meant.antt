@@ -16,7 +16,7 @@ module _ {R : Type 0} (kind : Ghosts R) where
   abbrev pub meant : Desk R → Standing kind.Content
   meant a = record { shot = a.shot; register = kind.meaning a.register; work = a.work }
 
-  comes : (a : Desk R) (x : Result (Made kind.Content) ControllerFault) → due kind a ≡ x → Comes kind.changes (meant a) x
+  pub comes : (a : Desk R) (x : Result (Made kind.Content) ControllerFault) → due kind a ≡ x → Comes kind.changes (meant a) x
   comes a x e = record { told = told kind a.register; meaning = refl; owed = kind.owed a.register; step = e }
 
   pub leads : (a b : Desk R) (s : StepLeads kind a b) → meant b ≡ after_step kind.changes (meant a) s.made

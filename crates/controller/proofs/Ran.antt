@@ -7,14 +7,14 @@ use Rattle.rows.proofs.Sound.{some_none}
 use Rattle.std.proofs.lemmas.Bool.{false≢true}
 use Rattle.rows.specs.Members.{Member, step, run}
 use Rattle.rows.specs.Places.{Place}
-use Rattle.rows.specs.Refusing.{most_cells, Runs, nothing_to_run, short_to_run, Refused}
+use Rattle.rows.specs.Refusing.{most_cells, Runs, nothing_to_run, short_to_run, Refused, Answers}
 use Rattle.rows.specs.Doing.{Many, no_more, one_more, Stops, at_value, at_budget, at_refusal, Does, refused, loads, steps, runs, collects, abandons}
 use Rattle.rows.specs.Rows.{Reached, at_start, then_does}
 use Rattle.controller.specs.declared.faults.ControllerFault.{ControllerFault}
 use Rattle.controller.specs.declared.faults.Stop.{Stop}
 use Rattle.controller.specs.declared.faults.Stop.TheVariants.{Value as ValueStop, Budget, Refused as RefusedStop}
 use Rattle.registers.specs.Telling.{Told}
-use Rattle.controller.specs.Faults.{ready_answer}
+use Rattle.controller.specs.Faults.{fault_number, ready_answer}
 use Rattle.controller.specs.Shots.{Held}
 use Rattle.controller.specs.Stepping.{Made, stepped, held_after}
 use Rattle.controller.specs.Meant.{Standing, Comes, Ran, none_made, one_more_made, Stopped}
@@ -114,23 +114,26 @@ module _ {C : Type 0} (changes : Changes C) where
   ran_steps {a = a} l (one_more_made {k = k} {b = b} {c = c} {t = t} r s e) =
       ap (λ (y : Standing C). y.shot.steps) e ∙ ap one_more_step (ran_steps l r) ∙ one_later a.shot.steps k 18446744073709551615
 
-  -- a step at the place that a run has come to is refused
-  comes_refused : (b : Standing C) (f : ControllerFault) (k : Kept changes b.shot b.register) (m : Running) (a : Ty) → k.loaded ≡ Some (m, a) → Comes changes b (Err f) → Refused (place_of k) (step most_cells)
+  -- a step at the place that a run has come to is refused, with the number of its fault
+  pub comes_refused : (b : Standing C) (f : ControllerFault) (k : Kept changes b.shot b.register) (m : Running) (a : Ty) → k.loaded ≡ Some (m, a) → Comes changes b (Err f)
+      → Answers (place_of k) (step most_cells) (Some (fault_number f))
   comes_refused b f k m a q c = go c.told c.meaning c.owed.free c.step
     where
-      done : (d : Told C) (free : Fresh d.meaning d.fresh) (k : Kept changes b.shot d.meaning) → k.loaded ≡ Some (m, a) → stepped changes d b.shot.cells ≡ Err f → Refused (place_of k) (step most_cells)
+      done : (d : Told C) (free : Fresh d.meaning d.fresh) (k : Kept changes b.shot d.meaning) → k.loaded ≡ Some (m, a) → stepped changes d b.shot.cells ≡ Err f
+          → Answers (place_of k) (step most_cells) (Some (fault_number f))
       done d free k q e = subst (StepKeeps changes d free b.shot k 1024) e (stepped_keeps d free b.shot k m a q)
 
-      go : (d : Told C) → d.meaning ≡ b.register → Fresh d.meaning d.fresh → stepped changes d b.shot.cells ≡ Err f → Refused (place_of k) (step most_cells)
+      go : (d : Told C) → d.meaning ≡ b.register → Fresh d.meaning d.fresh → stepped changes d b.shot.cells ≡ Err f → Answers (place_of k) (step most_cells) (Some (fault_number f))
       go d e free f' = move d.meaning e (λ k q. done d free k q f')
         where
-          move : (r : Meaning C) → r ≡ b.register → ((k : Kept changes b.shot r) → k.loaded ≡ Some (m, a) → Refused (place_of k) (step most_cells)) → Refused (place_of k) (step most_cells)
-          move r e g = subst (λ (r : Meaning C). (k : Kept changes b.shot r) → k.loaded ≡ Some (m, a) → Refused (place_of k) (step most_cells)) e g k q
+          move : (r : Meaning C) → r ≡ b.register → ((k : Kept changes b.shot r) → k.loaded ≡ Some (m, a) → Answers (place_of k) (step most_cells) (Some (fault_number f)))
+              → Answers (place_of k) (step most_cells) (Some (fault_number f))
+          move r e g = subst (λ (r : Meaning C). (k : Kept changes b.shot r) → k.loaded ≡ Some (m, a) → Answers (place_of k) (step most_cells) (Some (fault_number f))) e g k q
 
   stops : (budget made : ℕ) (b : Standing C) (k : Kept changes b.shot b.register) (m : Running) (a : Ty) → k.loaded ≡ Some (m, a) → (x : Stop) → Stopped changes budget made b x → Stops changes budget made (place_of k)
   stops budget made b k m a q ValueStop e = at_value q (found_value b.shot.cells m (held_by m a k.stands q).means e)
   stops budget made b k m a q Budget e = at_budget q (λ v. false≢true (sym e.0 ∙ value_found b.shot.cells m (held_by m a k.stands q).means v)) e.1
-  stops budget made b k m a q (RefusedStop f n) e = at_refusal q (λ v. false≢true (sym e.0 ∙ value_found b.shot.cells m (held_by m a k.stands q).means v)) e.1 (comes_refused b f k m a q e.2)
+  stops budget made b k m a q (RefusedStop f n) e = at_refusal q (λ v. false≢true (sym e.0 ∙ value_found b.shot.cells m (held_by m a k.stands q).means v)) e.1 (fault_number f, (comes_refused b f k m a q e.2).0)
 
   -- A call of run that is accepted.
   pub run_made : (budget made : ℕ) (a b : Standing C) (x : Stop) (k : Kept changes a.shot a.register) → ready_answer (length a.shot.cells) (length a.work) ≡ Ok tt

@@ -12,11 +12,11 @@ use Rattle.calculus.proofs.Determinism.{rests}
 use Rattle.std.proofs.lemmas.List.{length-map}
 use Rattle.finder.proofs.Places.{counted as cells_counted}
 use Rattle.registers.specs.declared.fault.RegisterReason.{RegisterReason}
-use Rattle.registers.specs.declared.fault.RegisterReason.TheVariants.{NoPulses, Full}
+use Rattle.registers.specs.declared.fault.RegisterReason.TheVariants.{NoPulses, Full, GateNotMade, WrongCount, NotLive, GivenTwice}
 use Rattle.registers.specs.declared.fault.RegisterFault.{RegisterFault}
 use Rattle.registers.specs.Meaning.{Meaning, Changes, Live, Fresh, counted, after_prepare, after_read, after_let_go}
 use Rattle.registers.specs.Answers.{number_of, prepare_answer, gate_answer, read_answer}
-use Rattle.registers.specs.Sheet.{Call, to_prepare, to_gate, to_read, Exact, reason_of}
+use Rattle.registers.specs.Sheet.{Call, to_prepare, to_gate, to_read, to_let_go, Exact, reason_of}
 use Rattle.registers.specs.Sheet.{Holds as SheetHolds}
 use Rattle.registers.proofs.Sheet.{refusals_are_exact}
 use Rattle.finder.specs.Finding.{answer}
@@ -33,20 +33,21 @@ use Rattle.stepper.proofs.Dropped.{names_laws}
 use Rattle.stepper.proofs.Steps.{step_laws}
 use Rattle.rows.specs.Members.{step}
 use Rattle.rows.specs.Places.{Place}
-use Rattle.rows.specs.Asking.{call_of, asks, drops, SpendsPulse, PreparesQubit, Overflows}
-use Rattle.rows.specs.Refusing.{most_cells, step_of_value, too_long, register_refuses, Refused}
+use Rattle.rows.specs.Asking.{call_of, Calls, asks, drops, SpendsPulse, PreparesQubit, Overflows}
+use Rattle.rows.specs.Refusing.{most_cells, Holds, nothing_to_step, short_to_step, step_of_value, no_rule, too_long, register_refuses, Refused, Answers}
 use Rattle.rows.specs.Stepping.{Accepts, Acts, without, Steps}
 use Rattle.rows.proofs.Lists.{lit_after_false, lit_within}
 use Rattle.rows.proofs.Kept.{KeptTerm, acted, prepare_room}
-use Rattle.rows.proofs.Sound.{only_want}
+use Rattle.rows.proofs.Sound.{same_term, some_none, only_want}
 use Rattle.rows.proofs.Wants.{none_some}
 use Rattle.rows.proofs.Names.{asked_named}
 use Rattle.calculus.specs.declared.gates.Gate.{Gate}
 use Rattle.rows.proofs.Steps.{value_or_goes}
 use Rattle.rows.proofs.Going.{first}
 use Rattle.controller.specs.declared.faults.ControllerFault.{ControllerFault}
-use Rattle.controller.specs.declared.faults.ControllerFault.TheVariants.{NoRule, TooLong}
+use Rattle.controller.specs.declared.faults.ControllerFault.TheVariants.{NoRule, TooLong, Register}
 use Rattle.registers.specs.Telling.{Told}
+use Rattle.controller.specs.Faults.{fault_number}
 use Rattle.controller.specs.Asking.{passed, asked, after_asked}
 use Rattle.controller.specs.Letting.{released, released_all}
 use Rattle.controller.specs.Stepping.{Made, made, made_or_fault, advanced, taken, stepped}
@@ -109,6 +110,17 @@ same_calls alike_silent = refl
 same_calls alike_prepares = refl
 same_calls alike_reads = refl
 same_calls alike_applies = refl
+
+same_call : {c d : Call} → Some c ≡ Some d → c ≡ d
+same_call e = cc
+
+pub from_41 : (reason : RegisterReason) → 41 ≤ number_of reason
+from_41 NoPulses = omega arith
+from_41 Full = omega arith
+from_41 GateNotMade = omega arith
+from_41 WrongCount = omega arith
+from_41 NotLive = omega arith
+from_41 GivenTwice = omega arith
 
 module _ {C : Type 0} (changes : Changes C) (t : Told C) (free : Fresh t.meaning t.fresh) {m : Running} {a : Ty} (kept : KeptTerm m a t.meaning)
     (cs : List TermCell) (means : Means cs m) (bare : unclaimed cs ≡ cs) where
@@ -200,10 +212,53 @@ module _ {C : Type 0} (changes : Changes C) (t : Told C) (free : Fresh t.meaning
   -- a step is made, or the sheet refuses it
   abbrev pub Comes : Result (Made C) ControllerFault → Type 0
   Comes (Ok x) = Done x
-  Comes (Err f) = (w : ℕ) → Refused here (step w)
+  Comes (Err f) = (w : ℕ) → 1024 ≤ w → Answers here (step w) (Some (fault_number f))
 
-  refused_by : {n : Running} {e : Effect} (d : Reduces m e n) (call : Call) → call_of e ≡ Some call → (reason : RegisterReason) → SheetHolds t.meaning reason call → (w : ℕ) → Refused here (step w)
-  refused_by d call q reason h w = (number_of reason, register_refuses reason refl (asks d q) h)
+  same_running : {m' : Running} {a' : Ty} → here.loaded ≡ Some (m', a') → m' ≡ m
+  same_running q = same_term refl q
+
+  -- Of the rows below the n-th none holds for a step with a long enough table, where none does that can.
+  none_below : {f w : ℕ} → Holds here f (step w) → 1024 ≤ w → (n : ℕ) → f < n → (35 < n → Value m → ⊥) → (36 < n → (e : Effect) × (k : Running) × Reduces m e k)
+      → (37 < n → Overflows most_cells m → ⊥) → (41 < n → (call : Call) → Calls m call → (reason : RegisterReason) → number_of reason < n → SheetHolds t.meaning reason call → ⊥) → ⊥
+  none_below (nothing_to_step q) l n b v g o c = some_none refl q
+  none_below (short_to_step q) l n b v g o c = omega arith
+  none_below (step_of_value q x) l n b v g o c = v b (subst Value (same_running q) x)
+  none_below (no_rule q x r) l n b v g o c = let (e, k, d) = g b in r e k (subst (λ (y : Running). Reduces y e k) (sym (same_running q)) d)
+  none_below (too_long q x) l n b v g o c = o b (subst (Overflows most_cells) (same_running q) x)
+  none_below (register_refuses {call = call} reason q x h) l n b v g o c =
+      c (let z = from_41 reason in omega arith) call (subst (λ (y : Running). Calls y call) (same_running q) x) reason b h
+
+  -- a live handle that is let go of is refused by no row
+  let_go_fine : (h : ℕ) → Live t.meaning h → (reason : RegisterReason) → SheetHolds t.meaning reason (to_let_go h) → ⊥
+  let_go_fine h l NoPulses x = x.0
+  let_go_fine h l Full x = x.0
+  let_go_fine h l GateNotMade x = x
+  let_go_fine h l WrongCount x = x
+  let_go_fine h l NotLive x = x.2 (subst (λ i. Live t.meaning i) x.1 l)
+  let_go_fine h l GivenTwice x = x
+
+  -- the register refuses the step's call by the lowest row that holds for it, and the step is refused by that one
+  refused_by : {n : Running} {e : Effect} (d : Reduces m e n) → size n ≤ 1024 → (call : Call) → call_of e ≡ Some call → (f : RegisterFault) → Exact t.meaning call (Some f.reason) → (w : ℕ) → 1024 ≤ w
+      → Answers here (step w) (Some (fault_number (Register f)))
+  refused_by {n = n} {e = e} d short call q f x w l = (
+    register_refuses f.reason refl (asks d q) x.0,
+    λ other h b. none_below h l (number_of f.reason) b (λ _ v. rests v d) (λ _. (e, n, d)) (λ _. not_long d short) (λ _. calls),
+  )
+    where
+      calls : (c : Call) → Calls m c → (reason : RegisterReason) → number_of reason < number_of f.reason → SheetHolds t.meaning reason c → ⊥
+      calls c (asks {e = e'} {n = n'} d' r) reason b h =
+          let z : Some call ≡ Some c = sym q ∙ (same_calls (one_request m n n' e e' d d').0 ∙ r) in
+          x.1 reason b (subst (SheetHolds t.meaning reason) (same_call (sym z)) h)
+      calls c (drops {h = h} d' i j) reason b x = let_go_fine h ((kept.same h).1 i) reason x
+
+  next_size : {n : Running} {e : Effect} (d : Reduces m e n) → length (next_cells cs (step_rule d) (step_cell d) Nothing) ≡ size n
+  next_size {n = n} {e = e} d =
+      step_laws.same_count cs (step_rule d) (step_cell d) Nothing (answer_of e)
+      ∙ ap (λ ds. length (next_cells ds (step_rule d) (step_cell d) (answer_of e))) cells_are
+      ∙ ap length (step_laws.steps d closed) ∙ cells_counted n
+
+  counted_size : {n : Running} {e : Effect} (d : Reduces m e n) → length (next_cells cs (step_rule d) (step_cell d) Nothing) ≤ 1024 → size n ≤ 1024
+  counted_size d few = let z = next_size d in omega arith
 
   only_call : (e : Effect) {call : Call} → call_of e ≡ Some call → Accepts t.meaning call → (c : Call) → call_of e ≡ Some c → Accepts t.meaning c
   only_call e {call = call} q ok c r = subst (Accepts t.meaning) (let z : ◌≡◌ {A = Option Call} (Some call) (Some c) = sym q ∙ r in let y : call ≡ c = cc in y) ok
@@ -217,7 +272,7 @@ module _ {C : Type 0} (changes : Changes C) (t : Told C) (free : Fresh t.meaning
   by_prepare : {n : Running} {b : Bool} {k : ℕ} (d : Reduces m (prepares b k) n) → length (next_cells cs (step_rule d) (step_cell d) Nothing) ≤ 1024
       → after_asked t (drop (step_cell d) cs) changes (step_rule d) ≡ after_by t changes (prepares b k)
       → (x : Result ℕ RegisterFault) → prepare_answer t.meaning t.depth t.fresh ≡ x → Comes (made_or_fault changes t cs (step_rule d) (step_cell d) (passed Handle x))
-  by_prepare {b = b} d few after (Err f) q = refused_by d (to_prepare b) refl f.reason ((prepare_says (Err f) q b).0)
+  by_prepare {b = b} d few after (Err f) q = refused_by d (counted_size d few) (to_prepare b) refl f (prepare_says (Err f) q b)
   by_prepare {n = n} {b = b} {k = k} d few after (Ok h) q = go h (prepare_gives h q)
     where
       ok : Accepts t.meaning (to_prepare b)
@@ -253,7 +308,7 @@ module _ {C : Type 0} (changes : Changes C) (t : Told C) (free : Fresh t.meaning
   by_read : {n : Running} {h : ℕ} {o : Bool} (d : Reduces m (reads h o) n) → length (next_cells cs (step_rule d) (step_cell d) Nothing) ≤ 1024
       → after_asked t (drop (step_cell d) cs) changes (step_rule d) ≡ after_by t changes (reads h o)
       → (x : Result Bool RegisterFault) → read_answer t.meaning t.depth h (t.outcome h) ≡ x → Comes (made_or_fault changes t cs (step_rule d) (step_cell d) (passed Outcome x))
-  by_read {h = h} d few after (Err f) q = refused_by d (to_read h) refl f.reason ((read_says h (Err f) q).0)
+  by_read {h = h} d few after (Err f) q = refused_by d (counted_size d few) (to_read h) refl f (read_says h (Err f) q)
   by_read {n = n} {h = h} {o = o} d few after (Ok b) q = go b (read_gives h b q)
     where
       ok : Accepts t.meaning (to_read h)
@@ -280,7 +335,7 @@ module _ {C : Type 0} (changes : Changes C) (t : Told C) (free : Fresh t.meaning
   by_gate : {n : Running} {u : Gate} {hs : List ℕ} (d : Reduces m (applies u hs) n) → length (next_cells cs (step_rule d) (step_cell d) Nothing) ≤ 1024
       → after_asked t (drop (step_cell d) cs) changes (step_rule d) ≡ after_by t changes (applies u hs)
       → (x : Result (Unit {0}) RegisterFault) → gate_answer t.meaning t.depth u hs ≡ x → Comes (made_or_fault changes t cs (step_rule d) (step_cell d) (passed (λ z. Nothing) x))
-  by_gate {u = u} {hs = hs} d few after (Err f) q = refused_by d (to_gate u hs) refl f.reason ((gate_says u hs (Err f) q).0)
+  by_gate {u = u} {hs = hs} d few after (Err f) q = refused_by d (counted_size d few) (to_gate u hs) refl f (gate_says u hs (Err f) q)
   by_gate {u = u} {hs = hs} d few after (Ok z) q =
       let ok = gate_says u hs (Ok z) q in
       subst (λ y. Done (made_with (step_rule d) (step_cell d) Nothing y)) (sym after)
@@ -310,12 +365,6 @@ module _ {C : Type 0} (changes : Changes C) (t : Told C) (free : Fresh t.meaning
       let (ds, s) = search_is_reduction.stands m p (step_cell d) due in
       subst (λ xs. Reads xs e) (sym (ap (drop (step_cell d)) cells_are ∙ s)) (redex_reads r zero_cell ds (effect_within e d))
 
-  next_size : {n : Running} {e : Effect} (d : Reduces m e n) → length (next_cells cs (step_rule d) (step_cell d) Nothing) ≡ size n
-  next_size {n = n} {e = e} d =
-      step_laws.same_count cs (step_rule d) (step_cell d) Nothing (answer_of e)
-      ∙ ap (λ ds. length (next_cells ds (step_rule d) (step_cell d) (answer_of e))) cells_are
-      ∙ ap length (step_laws.steps d closed) ∙ cells_counted n
-
   advance : {n : Running} {e : Effect} (d : Reduces m e n) → step_cell d < length cs → Comes (advanced changes t cs (step_rule d) (step_cell d))
   advance {n = n} {e = e} d l = subst Comes (sym first_test) (by (nat_lt 1024 (length (next_cells cs (step_rule d) (step_cell d) Nothing))) refl)
     where
@@ -329,7 +378,7 @@ module _ {C : Type 0} (changes : Changes C) (t : Told C) (free : Fresh t.meaning
       first_test = ap (λ b. cond b (Err NoRule) (rest_of (nat_lt 1024 (length (next_cells cs (step_rule d) (step_cell d) Nothing))))) (let z : nat_le (length cs) (step_cell d) ≡ false = grind arith in z)
 
       by : (b : Bool) → nat_lt 1024 (length (next_cells cs (step_rule d) (step_cell d) Nothing)) ≡ b → Comes (rest_of b)
-      by true q = λ w. (37, too_long refl (e, n, d, (let z = next_size d in grind arith)))
+      by true q = λ w k. (too_long refl (e, n, d, (let z = next_size d in grind arith)), λ other h b. none_below h k 37 b (λ _ v. rests v d) (λ _. (e, n, d)) (λ y. absurd (omega arith)) (λ y. absurd (omega arith)))
       by false q =
           subst (λ x. Comes (made_or_fault changes t cs (step_rule d) (step_cell d) x)) (sym asks_this)
           (by_effect e d (let z : length (next_cells cs (step_rule d) (step_cell d) Nothing) ≤ 1024 = grind arith in z) (rule_makes t changes d (drop (step_cell d) cs) (reads_at d)))
@@ -338,7 +387,7 @@ module _ {C : Type 0} (changes : Changes C) (t : Told C) (free : Fresh t.meaning
   stepping = ⊎_elim at_value goes (value_or_goes kept)
     where
       at_value : Value m → Comes (stepped changes t cs)
-      at_value v = subst (λ x. Comes (taken changes t cs x)) (sym ((search_is_reduction.value cs m means).1 v)) (λ w. (35, step_of_value refl v))
+      at_value v = subst (λ x. Comes (taken changes t cs x)) (sym ((search_is_reduction.value cs m means).1 v)) (λ w k. (step_of_value refl v, λ other h b. none_below h k 35 b (λ y. absurd (omega arith)) (λ y. absurd (omega arith)) (λ y. absurd (omega arith)) (λ y. absurd (omega arith))))
 
       with_step : (e : Effect) (n : Running) (d : Reduces m e n) → Comes (stepped changes t cs)
       with_step e n d =

@@ -1,5 +1,5 @@
 -- The numbers of the controller's faults, and when a step may begin.
-use Rattle.std.specs.Prelude.{ℕ, cond, Ok, Err, Result, ◌==◌, nat_lt}
+use Rattle.std.specs.Prelude.{ℕ, cond, Some, None, Ok, Err, Option, Result, ◌==◌, nat_lt}
 use Rattle.registers.specs.Answers.{number_of}
 use Rattle.controller.specs.declared.faults.ControllerFault.{ControllerFault}
 use Rattle.controller.specs.declared.faults.ControllerFault.TheVariants.{NothingLoaded, AlreadyLoaded, GateNotMade, ShortTable, AtValue, NoRule, TooLong, NoValue, ShortTables, Register}
@@ -24,3 +24,8 @@ ready_answer running work = cond (running == 0) (Err NothingLoaded) (cond (nat_l
 -- a refused call, with its place
 abbrev pub refused : {A : Type 0} → ControllerFault → ℕ → Result A Refusal
 refused fault place = Err (record { fault = fault; place = place })
+
+-- the number of a refusal, if the call is refused
+abbrev pub number_refused : {A : Type 0} → Result A Refusal → Option ℕ
+number_refused (Ok x) = None
+number_refused (Err f) = Some (fault_number f.fault)

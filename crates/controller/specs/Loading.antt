@@ -1,5 +1,6 @@
 -- When a load is refused, and what it answers.
-use Rattle.std.specs.Prelude.{ℕ, Bool, true, false, cond, List, length, Some, None, Ok, Option, Result, ◌==◌}
+use Rattle.std.specs.Prelude.{◌≡◌, ℕ, ◌<◌, ◌⊎◌, Bool, true, false, cond, List, length, Some, None, Ok, Err, Option, Result, ◌==◌}
+use Rattle.std.specs.List.{slice_get}
 use Rattle.trees.specs.Failing.{first_failing}
 use Rattle.calculus.specs.Gates.{gate_of}
 use Rattle.calculus.specs.declared.cells.TermCell.{TermCell}
@@ -9,7 +10,7 @@ use Rattle.controller.specs.declared.faults.Refusal.{Refusal}
 use Rattle.controller.specs.Faults.{refused}
 use Rattle.controller.specs.Shots.{Held, is_loaded}
 
-abbrev gate_made : (Gate → Bool) → Option Gate → Bool
+abbrev pub gate_made : (Gate → Bool) → Option Gate → Bool
 gate_made makes None = false
 gate_made makes (Some g) = makes g
 
@@ -29,3 +30,15 @@ count_or_unmade (Some cell) n = refused GateNotMade cell
 -- a load while something is loaded is refused; else one that names a gate not made, with its cell
 abbrev pub load_answer : (Gate → Bool) → Held → List TermCell → Result ℕ Refusal
 load_answer makes h terms = cond (is_loaded h) (refused AlreadyLoaded h.steps) (count_or_unmade (first_unmade makes terms) (length terms))
+
+-- the cell names a gate that is not made
+abbrev pub NamesUnmade : (Gate → Bool) → TermCell → Type 0
+NamesUnmade makes c = (c.op ≡ 103) × ((u : Gate) → gate_of c.argument ≡ Some u → makes u ≡ false)
+
+-- a load that is refused for a gate carries the first cell that names one which is not made, and any other the steps
+abbrev pub LoadPlace : (Gate → Bool) → Held → List TermCell → Result ℕ Refusal → Type 0
+LoadPlace makes h terms (Ok n) = Unit {0}
+LoadPlace makes h terms (Err f) =
+    ((f.fault ≡ AlreadyLoaded) × (f.place ≡ h.steps))
+    ⊎ ((f.fault ≡ GateNotMade) × ((c : TermCell) × (slice_get terms f.place ≡ Some c) × NamesUnmade makes c
+    × ((k : ℕ) (d : TermCell) → k < f.place → slice_get terms k ≡ Some d → NamesUnmade makes d → ⊥)))

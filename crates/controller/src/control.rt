@@ -23,8 +23,9 @@ impl<R: Register> Controller<R> {
     ghost use Rattle.rows.specs.Members.{step, run, collect, abandon};
     ghost use Rattle.registers.specs.Meaning.{after_clear};
     ghost use Rattle.registers.specs.Telling.{told};
-    ghost use Rattle.controller.specs.Calls.{IsKept, CallKeeps, LoadKeeps};
-    ghost use Rattle.controller.specs.Loading.{load_answer};
+    ghost use Rattle.controller.specs.Calls.{IsKept, CallKeeps, LoadKeeps, CallAnswers, LoadAnswers, StopAnswers};
+    ghost use Rattle.controller.specs.Faults.{number_refused};
+    ghost use Rattle.controller.specs.Loading.{load_answer, LoadPlace};
     ghost use Rattle.controller.specs.Meant.{standing};
     ghost use Rattle.controller.specs.Running.{RunAnswer, desk};
     ghost use Rattle.controller.specs.Settled.{RunIsSettled};
@@ -56,6 +57,8 @@ impl<R: Register> Controller<R> {
             (λ _. self.new ≡ self.old) }
         ensures derivable { IsDerivable program.now.types.now program.now.terms.now }
         ensures kept { LoadKeeps R.Register program.now.types.now program.now.terms.now self.old self.new (is_err result) }
+        ensures place { LoadPlace (R.Register.meaning self.old.register).makes (held self.old.shot) program.now.terms.now result }
+        ensures lowest { LoadAnswers R.Register program.now.types.now program.now.terms.now self.old (number_refused result) }
     {
         self.shot.load(&self.register, program)
     }
@@ -67,6 +70,7 @@ impl<R: Register> Controller<R> {
             self.old.shot self.new.shot self.old.register self.new.register work.old work.new }
         ensures kept { CallKeeps R.Register (step (length work.old)) self.old self.new (is_err result) }
         ensures refusal { OnlyWantStopsStep R.Register (held self.old.shot) self.old.register (length work.old) (is_err result) }
+        ensures lowest { CallAnswers R.Register (step (length work.old)) self.old (number_refused result) }
     {
         self.shot.step(&mut self.register, work)
     }
@@ -79,6 +83,8 @@ impl<R: Register> Controller<R> {
         ensures settled { RunIsSettled R.Register budget
             (standing R.Register self.old.shot self.old.register work.old) (standing R.Register self.new.shot self.new.register work.new) result }
         ensures kept { CallKeeps R.Register (run budget (length work.old)) self.old self.new (is_err result) }
+        ensures lowest { CallAnswers R.Register (run budget (length work.old)) self.old (number_refused result) }
+        ensures stop { StopAnswers R.Register self.new result }
     {
         self.shot.run(&mut self.register, budget, work)
     }
@@ -97,6 +103,7 @@ impl<R: Register> Controller<R> {
             (λ _. (value.new ≡ begun_with (held self.old.shot).cells value.old) × (kinds.new ≡ begun_with (held self.old.shot).kinds kinds.old))
             (λ _. (value.new ≡ value.old) × (kinds.new ≡ kinds.old)) }
         ensures kept { CallKeeps R.Register (collect (length value.old) (length kinds.old)) self.old self.new (is_err result) }
+        ensures lowest { CallAnswers R.Register (collect (length value.old) (length kinds.old)) self.old (number_refused result) }
     {
         self.shot.collect(&mut self.register, value, kinds)
     }
@@ -108,6 +115,7 @@ impl<R: Register> Controller<R> {
             (λ _. Ends R.Register self.new.shot self.old.register self.new.register)
             (λ _. self.new ≡ self.old) }
         ensures kept { CallKeeps R.Register abandon self.old self.new (is_err result) }
+        ensures lowest { CallAnswers R.Register abandon self.old (number_refused result) }
     {
         self.shot.abandon(&mut self.register)
     }

@@ -1,5 +1,5 @@
 -- The sheet of the controller's refusals: one constructor to a row, and the register's rows from its own sheet.
-use Rattle.std.specs.Prelude.{◌≡◌, ℕ, ◌<◌, false, ◌⊎◌, length, Some, None}
+use Rattle.std.specs.Prelude.{◌≡◌, ℕ, ◌<◌, false, ◌⊎◌, length, Some, None, Option}
 use Rattle.calculus.specs.declared.gates.Gate.{Gate}
 use Rattle.calculus.specs.Types.{Ty}
 use Rattle.calculus.specs.Terms.{Running, size}
@@ -41,3 +41,8 @@ module _ {C : Type 0} (p : Place C) where
   -- A member is refused where a row holds for it.
   abbrev pub Refused : Member → Type 0
   Refused x = (number : ℕ) × Holds number x
+
+  -- The number that the sheet gives: one whose row holds where no row of a lower one does, or none where no row holds.
+  abbrev pub Answers : Member → Option ℕ → Type 0
+  Answers x None = (number : ℕ) → Holds number x → ⊥
+  Answers x (Some number) = Holds number x × ((other : ℕ) → Holds other x → other < number → ⊥)

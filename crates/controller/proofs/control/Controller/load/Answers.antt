@@ -1,8 +1,10 @@
+use Rattle.controller.specs.Shots.{held}
 use Rattle.std.proofs.Common.{refl}
 use Rattle.std.proofs.Math.Logic.{∥∥₁_map}
 use Rattle.controller.proofs.Accepted.{derivable}
 use Rattle.controller.proofs.Loaded.{load_call}
 use Rattle.controller.proofs.Same.{same, told_otherwise}
+use Rattle.controller.proofs.Loaded.{load_number, load_place}
 use Rattle.controller.proofs.control.Controller.load.Goals as goal
 
 pub invariant_of-self : goal.invariant_of-self
@@ -26,3 +28,16 @@ returns-clause-kept g c =
 
 pub returns-clause-derivable : goal.returns-clause-derivable
 returns-clause-derivable g c = derivable c.args.program.now.types.now c.args.program.now.terms.now c.args.program.now.checked
+
+pub returns-clause-lowest : goal.returns-clause-lowest
+returns-clause-lowest g c =
+    let r = g.R.Register in
+    let s = c.args.self.now in
+    let p = c.args.program.now in
+    load_number r.changes r.meaning p.types.now p.terms.now p.checked s.shot s.register c.load.result c.load.ensures.answer
+
+pub returns-clause-place : goal.returns-clause-place
+returns-clause-place g c =
+    let r = g.R.Register in
+    let s = c.args.self.now in
+    load_place (r.meaning s.register).makes (held s.shot) c.args.program.now.terms.now c.load.result c.load.ensures.answer

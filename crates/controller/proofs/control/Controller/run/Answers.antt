@@ -3,6 +3,7 @@ use Rattle.controller.specs.Running.{desk}
 use Rattle.controller.proofs.Calls.{run_call}
 use Rattle.controller.proofs.Same.{same, told_otherwise}
 use Rattle.controller.proofs.Settled.{run_settled, same_standing}
+use Rattle.controller.proofs.Numbers.{run_number, run_stop}
 use Rattle.controller.proofs.control.Controller.run.Goals as goal
 
 pub invariant_of-self : goal.invariant_of-self
@@ -19,3 +20,11 @@ returns-clause-settled g c tells h =
     let s = c.args.self.now in
     run_settled g.R.Register tells h c.args.budget (desk s.shot s.register c.args.work.now) (desk c.run.new.self c.run.new.register c.run.new.work) c.run.result c.run.ensures.answer
     (same_standing g.R.Register s.shot c.run.new.self s.register c.run.new.register c.args.work.now c.run.new.work c.run.result c.run.ensures.refused)
+
+pub returns-clause-lowest : goal.returns-clause-lowest
+returns-clause-lowest g c k =
+    let s = c.args.self.now in
+    run_number g.R.Register c.args.budget (desk s.shot s.register c.args.work.now) (desk c.run.new.self c.run.new.register c.run.new.work) k c.run.result c.run.ensures.answer
+
+pub returns-clause-stop : goal.returns-clause-stop
+returns-clause-stop g c = run_stop g.R.Register c.args.self.now c.run.new.self c.run.new.register c.args.work.now c.run.new.work c.args.budget c.run.result c.run.ensures.answer c.run.ensures.refused
