@@ -35,10 +35,13 @@ load_answer makes h terms = cond (is_loaded h) (refused AlreadyLoaded h.steps) (
 abbrev pub NamesUnmade : (Gate → Bool) → TermCell → Type 0
 NamesUnmade makes c = (c.op ≡ 103) × ((u : Gate) → gate_of c.argument ≡ Some u → makes u ≡ false)
 
--- a load that is refused for a gate carries the first cell that names one which is not made, and any other the steps
+-- a load that is refused for a gate carries the first cell that names one not made, and any other
+-- refused load the steps
 abbrev pub LoadPlace : (Gate → Bool) → Held → List TermCell → Result ℕ Refusal → Type 0
 LoadPlace makes h terms (Ok n) = Unit {0}
 LoadPlace makes h terms (Err f) =
     ((f.fault ≡ AlreadyLoaded) × (f.place ≡ h.steps))
-    ⊎ ((f.fault ≡ GateNotMade) × ((c : TermCell) × (slice_get terms f.place ≡ Some c) × NamesUnmade makes c
-    × ((k : ℕ) (d : TermCell) → k < f.place → slice_get terms k ≡ Some d → NamesUnmade makes d → ⊥)))
+    ⊎ ((f.fault ≡ GateNotMade)
+    × ((c : TermCell) × (slice_get terms f.place ≡ Some c) × NamesUnmade makes c
+    × ((k : ℕ) (d : TermCell) → k < f.place → slice_get terms k ≡ Some d → NamesUnmade makes d
+    → ⊥)))

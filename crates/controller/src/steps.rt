@@ -146,7 +146,8 @@ impl Shot {
         budget: u64,
         work: &mut [TermCell],
     ) -> Result<(u64, Stop), Refusal>
-        ensures answer { RunAnswer R.Register budget (desk self.old register.old work.old) (desk self.new register.new work.new) result }
+        ensures answer { RunAnswer R.Register budget
+            (desk self.old register.old work.old) (desk self.new register.new work.new) result }
         ensures refused { OnErr result ((self.new ≡ self.old) × (register.new ≡ register.old) × (work.new ≡ work.old)) }
     {
         self.ready(work).map_err(|fault| fault.at(self.steps))?;

@@ -53,7 +53,8 @@ fn load_and_run<R: Register>(
     work: &mut [TermCell],
 ) -> Result<(u64, Stop), Refusal>
     ensures runs { LoadsAndRuns R.Register program.now.types.now program.now.terms.now budget
-        (standing R.Register controller.old.shot controller.old.register work.old) (standing R.Register controller.new.shot controller.new.register work.new) result }
+        (standing R.Register controller.old.shot controller.old.register work.old)
+        (standing R.Register controller.new.shot controller.new.register work.new) result }
     ensures within { IfOk result (λ r. r.0 ≤ budget) }
 {
     controller.load(program)?;
@@ -73,7 +74,8 @@ pub extern "C" fn ql_run(
     pulses: &mut [Pulse],
 ) -> Verdict
     ensures { (result, tables value.new kinds.new pulses.new)
-        ≡ run_answered (kinds_seen letters.now) (cells_seen nodes.now) outcomes.now budget (tables value.old kinds.old pulses.old) }
+        ≡ run_answered (kinds_seen letters.now) (cells_seen nodes.now) outcomes.now budget
+        (tables value.old kinds.old pulses.old) }
 {
     let (types, terms) = (type_table(letters), term_table::<TERM_PLACES>(nodes));
     let program = match check(types.as_slice(), terms.as_slice()) {

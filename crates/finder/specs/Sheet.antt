@@ -42,4 +42,5 @@ IsFirst cells f = Row cells f.reason f.cell
 pub record FirstRowAnswers : Type 0 where
   pub refused : (cells : List TermCell) (f : FindFault) → IsFirst cells f ↔ (answer cells ≡ Err f)
   pub accepted : (cells : List TermCell)
-      → ((r : FindReason) (k : ℕ) → Row cells r k → ⊥) ↔ ((x : Option (Rule × ℕ)) × (answer cells ≡ Ok x))
+      → ((r : FindReason) (k : ℕ) → Row cells r k → ⊥)
+      ↔ ((x : Option (Rule × ℕ)) × (answer cells ≡ Ok x))

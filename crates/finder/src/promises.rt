@@ -11,8 +11,8 @@ pub fn search_is_reduction() -> u8
     0
 }
 
-/// The finder refuses by the first row of its sheet that holds, at the cell that the row names, and answers a value or a
-/// step exactly where none holds.
+/// The finder refuses by the first row of its sheet that holds, at the cell that the row names, and
+/// answers a value or a step exactly where none holds.
 pub fn the_first_row_answers() -> u8
     ensures { FirstRowAnswers }
 {

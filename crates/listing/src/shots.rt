@@ -132,7 +132,8 @@ fn cells_collected(collected: Option<Reply>) -> (usize, usize)
 
 // Plays a shot's row on a new tape: a load, a run and the collecting of its value.
 fn play_cells(heap: Global, types: &[TypeCell], terms: &[TermCell]) -> Result<Shot, AllocError>
-    ensures played { IfOk result (λ shot. CellsPlayed ⟦<Tape<'static> as Register>⟧ types.now terms.now shot) }
+    ensures played { IfOk result (λ shot.
+        CellsPlayed ⟦<Tape<'static> as Register>⟧ types.now terms.now shot) }
     ensures listed { IfOk result (λ shot. listing_lines shot ≡ cells_listed types.now terms.now) }
 {
     let outcomes = outcomes(heap)?;

@@ -5,7 +5,8 @@ ghost use Rattle.checker.specs.Accepting.{program_verdict};
 ghost use Rattle.rows.specs.Members.{step, run, collect, abandon};
 ghost use Rattle.controller.specs.Calls.{CallKeeps};
 ghost use Rattle.controller.specs.Shots.{held, nothing_held};
-ghost use Rattle.player.specs.Stages.{stage, load_made, StepMakes, RunMakes, CollectMakes, AbandonMakes, TurnMakes};
+ghost use Rattle.player.specs.Stages.{stage, load_made, TurnMakes};
+ghost use Rattle.player.specs.Stages.{StepMakes, RunMakes, CollectMakes, AbandonMakes};
 ghost use Rattle.player.specs.Turns.{rooms, is_refused, LoadPlayed, TurnPlayed};
 ghost use Rattle.player.specs.Playing.{RowPlayed};
 ghost use Rattle.player.specs.Settled.{RowIsSettled};
@@ -23,7 +24,9 @@ fn load<R: Register>(
     terms: &[TermCell],
 ) -> Reply
     ensures reply { (result, stage (held controller.new.shot) controller.new.register [] [] [])
-        ≡ load_made R.Register types.now terms.now (stage (held controller.old.shot) controller.old.register [] [] []) (program_verdict types.now terms.now) }
+        ≡ load_made R.Register types.now terms.now
+        (stage (held controller.old.shot) controller.old.register [] [] [])
+        (program_verdict types.now terms.now) }
     ensures kept { LoadPlayed R.Register types.now terms.now controller.old controller.new result }
 {
     let program = check(types, terms)?;
@@ -32,9 +35,11 @@ fn load<R: Register>(
 
 // One step, with the first cells of the work table.
 fn step<R: Register>(controller: &mut Controller<R>, room: usize, work: &mut [TermCell]) -> Reply
-    ensures made { StepMakes R.Register room (stage (held controller.old.shot) controller.old.register work.old [] [])
+    ensures made { StepMakes R.Register room
+        (stage (held controller.old.shot) controller.old.register work.old [] [])
         (stage (held controller.new.shot) controller.new.register work.new [] []) result }
-    ensures kept { CallKeeps R.Register (step (min room (length work.old))) controller.old controller.new (is_refused result) }
+    ensures kept { CallKeeps R.Register (step (min room (length work.old)))
+        controller.old controller.new (is_refused result) }
 {
     let room = room.min(work.len());
     Ok(Done::Stepped(controller.step(&mut work[..room])?))
@@ -47,9 +52,11 @@ fn run<R: Register>(
     room: usize,
     work: &mut [TermCell],
 ) -> Reply
-    ensures made { RunMakes R.Register budget room (stage (held controller.old.shot) controller.old.register work.old [] [])
+    ensures made { RunMakes R.Register budget room
+        (stage (held controller.old.shot) controller.old.register work.old [] [])
         (stage (held controller.new.shot) controller.new.register work.new [] []) result }
-    ensures kept { CallKeeps R.Register (run budget (min room (length work.old))) controller.old controller.new (is_refused result) }
+    ensures kept { CallKeeps R.Register (run budget (min room (length work.old)))
+        controller.old controller.new (is_refused result) }
 {
     let room = room.min(work.len());
     let (steps, stop) = controller.run(budget, &mut work[..room])?;
@@ -64,9 +71,12 @@ fn collect<R: Register>(
     kind_room: usize,
     kinds: &mut [TypeCell],
 ) -> Reply
-    ensures made { CollectMakes R.Register room kind_room (stage (held controller.old.shot) controller.old.register [] value.old kinds.old)
+    ensures made { CollectMakes R.Register room kind_room
+        (stage (held controller.old.shot) controller.old.register [] value.old kinds.old)
         (stage (held controller.new.shot) controller.new.register [] value.new kinds.new) result }
-    ensures kept { CallKeeps R.Register (collect (min room (length value.old)) (min kind_room (length kinds.old))) controller.old controller.new (is_refused result) }
+    ensures kept { CallKeeps R.Register
+        (collect (min room (length value.old)) (min kind_room (length kinds.old)))
+        controller.old controller.new (is_refused result) }
 {
     let room = room.min(value.len());
     let kind_room = kind_room.min(kinds.len());
@@ -75,7 +85,8 @@ fn collect<R: Register>(
 }
 
 fn abandon<R: Register>(controller: &mut Controller<R>) -> Reply
-    ensures made { AbandonMakes R.Register (stage (held controller.old.shot) controller.old.register [] [] [])
+    ensures made { AbandonMakes R.Register
+        (stage (held controller.old.shot) controller.old.register [] [] [])
         (stage (held controller.new.shot) controller.new.register [] [] []) result }
     ensures kept { CallKeeps R.Register abandon controller.old controller.new (is_refused result) }
 {
@@ -91,9 +102,13 @@ fn play_turn<R: Register>(
     value: &mut [TermCell],
     kinds: &mut [TypeCell],
 ) -> Reply
-    ensures made { TurnMakes R.Register turn.now (stage (held controller.old.shot) controller.old.register work.old value.old kinds.old)
-        (stage (held controller.new.shot) controller.new.register work.new value.new kinds.new) result }
-    ensures played { TurnPlayed R.Register (rooms (length work.old) (length value.old) (length kinds.old)) turn.now controller.old controller.new result }
+    ensures made { TurnMakes R.Register turn.now
+        (stage (held controller.old.shot) controller.old.register work.old value.old kinds.old)
+        (stage (held controller.new.shot) controller.new.register work.new value.new kinds.new)
+        result }
+    ensures played { TurnPlayed R.Register
+        (rooms (length work.old) (length value.old) (length kinds.old)) turn.now
+        controller.old controller.new result }
 {
     match *turn {
         Turn::Load(types, terms) => load(controller, types, terms),
@@ -113,10 +128,14 @@ pub fn play<R: Register>(
     kinds: &mut [TypeCell],
     replies: &mut [Option<Reply>],
 ) -> Controller<R>
-    ensures played { RowPlayed R.Register (stage nothing_held register work.old value.old kinds.old) (take (length replies.old) row.now)
-        replies.old replies.new (stage (held result.shot) result.register work.new value.new kinds.new) }
-    ensures settled { RowIsSettled R.Register (stage nothing_held register work.old value.old kinds.old) (take (length replies.old) row.now)
-        replies.old replies.new (stage (held result.shot) result.register work.new value.new kinds.new) }
+    ensures played { RowPlayed R.Register
+        (stage nothing_held register work.old value.old kinds.old)
+        (take (length replies.old) row.now) replies.old replies.new
+        (stage (held result.shot) result.register work.new value.new kinds.new) }
+    ensures settled { RowIsSettled R.Register
+        (stage nothing_held register work.old value.old kinds.old)
+        (take (length replies.old) row.now) replies.old replies.new
+        (stage (held result.shot) result.register work.new value.new kinds.new) }
 {
     let mut controller = Controller::new(register);
     for (i, turn) in row.iter().take(replies.len()).enumerate() {

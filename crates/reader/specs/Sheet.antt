@@ -121,4 +121,5 @@ pub record FirstLineAnswers : Type 0 where
   pub refused : (text : List ℕ) (ts : List TypeCell) (ms : List TermCell) (f : ReadFault)
       → IsFirst (pieces 10 text) (length ts) (length ms) f ↔ ((reading text ts ms).answer ≡ Err f)
   pub accepted : (text : List ℕ) (ts : List TypeCell) (ms : List TermCell)
-      → ((t : Test) (k : ℕ) → Row (pieces 10 text) (length ts) (length ms) t k → ⊥) ↔ ((n : ℕ × ℕ) × ((reading text ts ms).answer ≡ Ok n))
+      → ((t : Test) (k : ℕ) → Row (pieces 10 text) (length ts) (length ms) t k → ⊥)
+      ↔ ((n : ℕ × ℕ) × ((reading text ts ms).answer ≡ Ok n))

@@ -11,8 +11,8 @@ pub fn reading_is_exact() -> u8
     0
 }
 
-/// A text is refused at the first line that a row of the sheet refuses, for the first such test of that line, and is
-/// accepted exactly where no row holds.
+/// A text is refused at the first line that a row of the sheet refuses, for the first such test of
+/// that line, and is accepted exactly where no row holds.
 pub fn the_first_line_answers() -> u8
     ensures { FirstLineAnswers }
 {

@@ -42,7 +42,8 @@ module _ {C : Type 0} (p : Place C) where
   abbrev pub Refused : Member → Type 0
   Refused x = (number : ℕ) × Holds number x
 
-  -- The number that the sheet gives: one whose row holds where no row of a lower one does, or none where no row holds.
+  -- The number that the sheet gives: one whose row holds where no row of a lower one does, or none
+  -- where no row holds.
   abbrev pub Answers : Member → Option ℕ → Type 0
   Answers x None = (number : ℕ) → Holds number x → ⊥
   Answers x (Some number) = Holds number x × ((other : ℕ) → Holds other x → other < number → ⊥)

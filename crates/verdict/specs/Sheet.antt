@@ -105,10 +105,11 @@ fault_at s = fault s.reason s.cell
 
 -- The answer that a sheet gives: acceptance where no row holds, and else the fault of one that
 -- holds, before which none does.
-module _ {S : Type 0} (Holds : S → Type 0) (Before : S → S → Type 0) (fault_of : S → CheckFault) where
-  abbrev pub Answers : Verdict → Type 0
-  Answers (Ok x) = (s : S) → Holds s → ⊥
-  Answers (Err f) = (s : S) × Holds s × (f ≡ fault_of s) × ((t : S) → Holds t → Before t s → ⊥)
+module _ {S : Type 0} (Holds : S → Type 0) (Earlier : S → S → Type 0) (fault_of : S → CheckFault)
+  where
+    abbrev pub Answers : Verdict → Type 0
+    Answers (Ok x) = (s : S) → Holds s → ⊥
+    Answers (Err f) = (s : S) × Holds s × (f ≡ fault_of s) × ((t : S) → Holds t → Earlier t s → ⊥)
 
 -- the answer of the sheet on the term m at the cell k
 abbrev pub AnswersFrom : ℕ → List Ty → Term Ty → Verdict → Type 0

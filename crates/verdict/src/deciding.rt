@@ -19,8 +19,8 @@ pub fn acceptance_is_derivability_below() -> u8
     0
 }
 
-/// The verdict on a term is the first row of the sheet that holds for it: acceptance where none holds, and else the
-/// refusal by one, at its cell, before which none does.
+/// The verdict on a term is the first row of the sheet that holds for it: acceptance where none
+/// holds, and else the refusal by one, at its cell, before which none does.
 pub fn the_first_row_answers() -> u8
     ensures { FirstRowAnswers }
 {
