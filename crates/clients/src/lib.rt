@@ -2,11 +2,9 @@
 #![tactic(auto)]
 
 mod one_qubit;
-mod piles;
 #[cfg(test)]
 mod tests;
 mod uses;
 
 pub use one_qubit::OneQubit;
-pub use piles::piles_are_settled;
 pub use uses::prepare_and_read;
