@@ -1,8 +1,8 @@
 -- A load is the member of a row: it is refused just where something is loaded or a gate is not made, and else the program's term stands.
-use Rattle.std.specs.Prelude.{◌≡◌, ℕ, ◌<◌, ◌≤◌, Bool, true, false, cond, ◌&&◌, ◌||◌, T as True, List, [], ◌∷◌, ◌++◌, length, Some, None, Ok, Err, Option, Result, MatchResult, is_err, is_some, not, ◌==◌}
-use Rattle.std.proofs.lemmas.Bool.{false≢true, eqb-true, eq-eqb}
+use Rattle.std.specs.Prelude.{◌≡◌, ℕ, ◌<◌, ◌≤◌, Bool, true, false, cond, ◌&&◌, ◌||◌, T as True, List, [], ◌∷◌, ◌++◌, map, length, Some, None, Ok, Err, Option, Result, MatchResult, is_err, is_some, not, ◌==◌}
+use Rattle.std.proofs.lemmas.Bool.{false≢true}
 use Rattle.std.proofs.Common.{ap, ap₂, ◌∙◌, sym, refl, subst, inl, inr, ⊎_elim, arith}
-use Rattle.std.proofs.lemmas.Option.{none-some}
+use Rattle.std.proofs.lemmas.Option.{none-some, slice_get-map}
 use Rattle.calculus.specs.declared.gates.Gate.{Gate}
 use Rattle.calculus.specs.declared.gates.Gate.TheVariants.{H, X, Z, S, T, Cnot, Swap, Toffoli}
 use Rattle.calculus.specs.declared.cells.TermCell.{TermCell}
@@ -23,6 +23,7 @@ use Rattle.checker.specs.Meaning.{meaning as term_meant}
 use Rattle.checker.specs.Tables.{storable}
 use Rattle.checker.proofs.Exact.{meant_by}
 use Rattle.registers.specs.Meaning.{Meaning, Changes}
+use Rattle.rows.specs.Gates.{gate_named, gates_by_cell, UnmadeAt, FirstUnmade}
 use Rattle.rows.specs.Members.{NamesGate, gate_here, gate_lam, gate_fun, gate_arg, gate_left, gate_right, gate_test, gate_then, gate_else, gate_pair, gate_body, Program, load}
 use Rattle.rows.specs.Refusing.{Refused, already_loaded, gate_not_made, Answers}
 use Rattle.rows.specs.Refusing.{Holds as RowHolds}
@@ -34,9 +35,10 @@ use Rattle.rows.specs.Rows.{then_does}
 use Rattle.rows.proofs.Made.{check, load_taken}
 use Rattle.controller.specs.declared.faults.ControllerFault.TheVariants.{AlreadyLoaded}
 use Rattle.controller.specs.Faults.{refused}
-use Rattle.controller.specs.Loading.{gate_made, is_made, first_unmade, count_or_unmade, load_answer, NamesUnmade, LoadPlace}
-use Rattle.calculus.specs.Gates.{gate_of}
+use Rattle.controller.specs.Loading.{is_made, first_unmade, count_or_unmade, load_answer, LoadPlace}
 use Rattle.std.specs.List.{slice_get}
+use Rattle.std.specs.Option.{option_map}
+use Rattle.std.proofs.lemmas.List.{map-append}
 use Rattle.controller.specs.declared.faults.Refusal.{Refusal}
 use Rattle.controller.specs.declared.shot.Shot.{Shot}
 use Rattle.controller.specs.Shots.{Held, held as held_by, is_loaded, root_claim, program_held}
@@ -293,37 +295,111 @@ load_number changes meaning types terms a shot register result e =
     let s = accepted_program types terms a in
     (s.program, s.meant, λ k. subst (λ y. Answers (place_of k) (load s.program) (number_refused y)) (sym e) (loaded_number types terms s.program s.placed s.cells s.means s.letters k))
 
--- the test of a cell, in words
-unmade_said : (makes : Gate → Bool) (c : TermCell) → is_made makes c ≡ false → NamesUnmade makes c
-unmade_said makes c e = by (c.op == 103) refl e
-  where
-    gate : (o : Option Gate) → gate_made makes o ≡ false → (u : Gate) → o ≡ Some u → makes u ≡ false
-    gate None e u q = absurd (none-some u q)
-    gate (Some v) e u q = subst (λ w. makes w ≡ false) (same_gate q) e
+-- the test of a cell, by the gate that it names
+abbrev gate_passed : (Gate → Bool) → Option Gate → Bool
+gate_passed makes None = true
+gate_passed makes (Some u) = makes u
+
+const_passed : (makes : Gate → Bool) (c : ℕ) (k : Const)
+    → is_made makes (cell_of (const_op k) (const_argument k) c) ≡ gate_passed makes (gate_named k)
+const_passed makes c (bit_of true) = refl
+const_passed makes c (bit_of false) = refl
+const_passed makes c meas = refl
+const_passed makes c new = refl
+const_passed makes c (gate u) = gate_passes makes c u
+
+both_mapped : {A B : Type 0} (f : A → Bool) (g : B → Bool) (xs ys : List A) (vs ws : List B)
+    → map f xs ≡ map g vs → map f ys ≡ map g ws → map f (xs ++ ys) ≡ map g (vs ++ ws)
+both_mapped f g xs ys vs ws p q =
+    map-append f xs ys ∙ ap₂ (λ is js. is ++ js) p q ∙ sym (map-append g vs ws)
+
+module _ (makes : Gate → Bool) (f : ℕ → Ty) where
+  abbrev gates : Term ℕ → List (Option Gate)
+  gates m = gates_by_cell (reclaimed f m)
+
+  two_passed : (m n : Term ℕ) → map (is_made makes) (placed_cells m) ≡ map (gate_passed makes) (gates m)
+      → map (is_made makes) (placed_cells n) ≡ map (gate_passed makes) (gates n)
+      → map (is_made makes) (placed_cells m ++ placed_cells n) ≡ map (gate_passed makes) (gates m ++ gates n)
+  two_passed m n = both_mapped (is_made makes) (gate_passed makes) (placed_cells m) (placed_cells n) (gates m) (gates n)
+
+  -- The cells of a term pass as the gates that they name.
+  cells_passed : (m : Term ℕ) → map (is_made makes) (placed_cells m) ≡ map (gate_passed makes) (gates m)
+  cells_passed (var c (bound i)) = refl
+  cells_passed (var c (held h)) = refl
+  cells_passed (const c k) = ap (λ b. b ∷ []) (const_passed makes c k)
+  cells_passed (star c) = refl
+  cells_passed (lam c m) = ap (λ bs. true ∷ bs) (cells_passed m)
+  cells_passed (app c m n) = ap (λ bs. true ∷ bs) (two_passed m n (cells_passed m) (cells_passed n))
+  cells_passed (pair c m n) = ap (λ bs. true ∷ bs) (two_passed m n (cells_passed m) (cells_passed n))
+  cells_passed (if_then_else c p m n) = ap (λ bs. true ∷ bs)
+      (both_mapped (is_made makes) (gate_passed makes) (placed_cells p) (placed_cells m ++ placed_cells n)
+      (gates p) (gates m ++ gates n) (cells_passed p) (two_passed m n (cells_passed m) (cells_passed n)))
+  cells_passed (let_pair c m n) = ap (λ bs. true ∷ bs) (two_passed m n (cells_passed m) (cells_passed n))
+
+  module _ (m : Term ℕ) where
+    same_test : (k : ℕ) → option_map (is_made makes) (slice_get (placed_cells m) k)
+        ≡ option_map (gate_passed makes) (slice_get (gates m) k)
+    same_test k = sym (slice_get-map (is_made makes) (placed_cells m) k)
+        ∙ ap (λ bs. slice_get bs k) (cells_passed m) ∙ slice_get-map (gate_passed makes) (gates m) k
+
+    -- a cell that fails names a gate that is not made, and the other way round
+    unmade_found : (k : ℕ) (c : TermCell) → slice_get (placed_cells m) k ≡ Some c → is_made makes c ≡ false
+        → UnmadeAt makes (reclaimed f m) k
+    unmade_found k c g e = by (slice_get (gates m) k) refl (sym (same_test k) ∙ ap (option_map (is_made makes)) g)
       where
-        same_gate : {v u : Gate} → Some v ≡ Some u → v ≡ u
-        same_gate q = cc
+        by : (o : Option (Option Gate)) → slice_get (gates m) k ≡ o
+            → option_map (gate_passed makes) o ≡ Some (is_made makes c) → UnmadeAt makes (reclaimed f m) k
+        by None q r = absurd (none-some _ r)
+        by (Some None) q r = absurd (false≢true (sym e ∙ sym (taken_out r)))
+          where
+            taken_out : Some true ≡ Some (is_made makes c) → true ≡ is_made makes c
+            taken_out r = cc
+        by (Some (Some u)) q r = (u, q, taken_out r ∙ e)
+          where
+            taken_out : Some (makes u) ≡ Some (is_made makes c) → makes u ≡ is_made makes c
+            taken_out r = cc
 
-    by : (b : Bool) → (c.op == 103) ≡ b → cond b (gate_made makes (gate_of c.argument)) true ≡ false → NamesUnmade makes c
-    by true q e = (eqb-true c.op 103 q, gate (gate_of c.argument) e)
-    by false q e = absurd (false≢true (sym e))
+    unmade_fails : (k : ℕ) → UnmadeAt makes (reclaimed f m) k
+        → (c : TermCell) × (slice_get (placed_cells m) k ≡ Some c) × (is_made makes c ≡ false)
+    unmade_fails k y = by (slice_get (placed_cells m) k) refl (same_test k ∙ ap (option_map (gate_passed makes)) y.1)
+      where
+        by : (o : Option TermCell) → slice_get (placed_cells m) k ≡ o
+            → option_map (is_made makes) o ≡ Some (makes y.0)
+            → (c : TermCell) × (slice_get (placed_cells m) k ≡ Some c) × (is_made makes c ≡ false)
+        by None q r = absurd (none-some _ r)
+        by (Some c) q r = (c, q, taken_out r ∙ y.2)
+          where
+            taken_out : Some (is_made makes c) ≡ Some (makes y.0) → is_made makes c ≡ makes y.0
+            taken_out r = cc
 
-unmade_shown : (makes : Gate → Bool) (c : TermCell) → NamesUnmade makes c → is_made makes c ≡ false
-unmade_shown makes c n = ap (λ b. cond b (gate_made makes (gate_of c.argument)) true) (eq-eqb c.op 103 n.0) ∙ gate (gate_of c.argument) n.1
+    first_found : (k : ℕ) → FirstFails (is_made makes) (placed_cells m) 0 (Some k)
+        → FirstUnmade makes (reclaimed f m) k
+    first_found k y = record {
+      here = subst (UnmadeAt makes (reclaimed f m)) (sym same) (unmade_found y.0 y.1 y.3 y.4);
+      none_before = λ j l u. let (c, g, e) = unmade_fails j u in y.5 j c (let z = y.2 in omega arith) g e;
+    }
+      where
+        same : k ≡ y.0
+        same = let z = y.2 in omega arith
+
+pub load_place : (makes : Gate → Bool) (types : List TypeCell) (terms : List TermCell) → accepts types terms ≡ true
+    → (h : Held) (result : Result ℕ Refusal) → result ≡ load_answer makes h terms
+    → LoadPlace makes h (term_meant types terms 0) result
+load_place makes types terms a h result e = subst (LoadPlace makes h (term_meant types terms 0)) (sym e) (by (is_loaded h))
   where
-    gate : (o : Option Gate) → ((u : Gate) → o ≡ Some u → makes u ≡ false) → gate_made makes o ≡ false
-    gate None f = refl
-    gate (Some u) f = f u refl
+    s : StoresProgram types terms
+    s = accepted_program types terms a
 
-pub load_place : (makes : Gate → Bool) (h : Held) (terms : List TermCell) (result : Result ℕ Refusal) → result ≡ load_answer makes h terms → LoadPlace makes h terms result
-load_place makes h terms result e = subst (LoadPlace makes h terms) (sym e) (by (is_loaded h))
-  where
-    found : (o : Option ℕ) → FirstFails (is_made makes) terms 0 o → LoadPlace makes h terms (count_or_unmade o (length terms))
-    found None f = tt
-    found (Some k) f =
-        let z : k ≡ f.0 = (let y = f.2 in omega arith) in
-        inr (refl, (f.1, ap (slice_get terms) z ∙ f.3, unmade_said makes f.1 f.4, λ j d l g n. f.5 j d (omega arith) g (unmade_shown makes d n)))
+    found : (o : Option ℕ) → FirstFails (is_made makes) terms 0 o
+        → LoadPlace makes h (term_meant types terms 0) (count_or_unmade o (length terms))
+    found None y = tt
+    found (Some k) y = inr (
+      refl,
+      subst (λ m. FirstUnmade makes m k) (sym s.means ∙ s.meant)
+          (first_found makes (type_at types) s.placed k (subst (λ cs. FirstFails (is_made makes) cs 0 (Some k)) s.cells y)),
+    )
 
-    by : (l : Bool) → LoadPlace makes h terms (cond l (refused AlreadyLoaded h.steps) (count_or_unmade (first_unmade makes terms) (length terms)))
+    by : (l : Bool) → LoadPlace makes h (term_meant types terms 0)
+        (cond l (refused AlreadyLoaded h.steps) (count_or_unmade (first_unmade makes terms) (length terms)))
     by true = inl (refl, refl)
     by false = found (first_unmade makes terms) (first_fails (is_made makes) terms 0)

@@ -40,9 +40,10 @@ module _ {R : Type 0} (kind : Ghosts R) where
       (x : Program) × (x.term ≡ term_meant types terms 0) × CallAnswers (load x) c result
 
   -- the place that a refused load carries
-  abbrev pub LoadCarries : List TermCell → Controller R kind → Result ℕ Refusal → Type 0
-  LoadCarries terms c result =
-      LoadPlace (kind.meaning c.register).makes (held c.shot) terms result
+  abbrev pub LoadCarries : List TypeCell → List TermCell → Controller R kind → Result ℕ Refusal
+      → Type 0
+  LoadCarries types terms c result =
+      LoadPlace (kind.meaning c.register).makes (held c.shot) (term_meant types terms 0) result
 
   -- the same of the step at which a run has stopped
   abbrev pub StopAnsweredBy : Shot → R → Result (ℕ × Stop) Refusal → Type 0

@@ -1,10 +1,11 @@
 -- When a load is refused, and what it answers.
-use Rattle.std.specs.Prelude.{◌≡◌, ℕ, ◌<◌, ◌⊎◌, Bool, true, false, cond, List, length, Some, None, Ok, Err, Option, Result, ◌==◌}
-use Rattle.std.specs.List.{slice_get}
+use Rattle.std.specs.Prelude.{◌≡◌, ℕ, ◌⊎◌, Bool, true, false, cond, List, length, Some, None, Ok, Err, Option, Result, ◌==◌}
 use Rattle.trees.specs.Failing.{first_failing}
 use Rattle.calculus.specs.Gates.{gate_of}
+use Rattle.calculus.specs.Terms.{Term}
 use Rattle.calculus.specs.declared.cells.TermCell.{TermCell}
 use Rattle.calculus.specs.declared.gates.Gate.{Gate}
+use Rattle.rows.specs.Gates.{FirstUnmade}
 use Rattle.controller.specs.declared.faults.ControllerFault.TheVariants.{AlreadyLoaded, GateNotMade}
 use Rattle.controller.specs.declared.faults.Refusal.{Refusal}
 use Rattle.controller.specs.Faults.{refused}
@@ -31,17 +32,10 @@ count_or_unmade (Some cell) n = refused GateNotMade cell
 abbrev pub load_answer : (Gate → Bool) → Held → List TermCell → Result ℕ Refusal
 load_answer makes h terms = cond (is_loaded h) (refused AlreadyLoaded h.steps) (count_or_unmade (first_unmade makes terms) (length terms))
 
--- the cell names a gate that is not made
-abbrev pub NamesUnmade : (Gate → Bool) → TermCell → Type 0
-NamesUnmade makes c = (c.op ≡ 103) × ((u : Gate) → gate_of c.argument ≡ Some u → makes u ≡ false)
-
--- a load that is refused for a gate carries the first cell that names one not made, and any other
--- refused load the steps
-abbrev pub LoadPlace : (Gate → Bool) → Held → List TermCell → Result ℕ Refusal → Type 0
-LoadPlace makes h terms (Ok n) = Unit {0}
-LoadPlace makes h terms (Err f) =
+-- A load that is refused for a gate carries the first cell of the term, in tree order, that names one
+-- not made, and any other refused load the steps.
+abbrev pub LoadPlace : {C : Type 0} → (Gate → Bool) → Held → Term C → Result ℕ Refusal → Type 0
+LoadPlace makes h m (Ok n) = Unit {0}
+LoadPlace makes h m (Err f) =
     ((f.fault ≡ AlreadyLoaded) × (f.place ≡ h.steps))
-    ⊎ ((f.fault ≡ GateNotMade)
-    × ((c : TermCell) × (slice_get terms f.place ≡ Some c) × NamesUnmade makes c
-    × ((k : ℕ) (d : TermCell) → k < f.place → slice_get terms k ≡ Some d → NamesUnmade makes d
-    → ⊥)))
+    ⊎ ((f.fault ≡ GateNotMade) × FirstUnmade makes m f.place)

@@ -61,7 +61,8 @@ impl<R: Register> Controller<R> {
         ensures derivable { IsDerivable program.now.types.now program.now.terms.now }
         ensures kept { LoadKeeps R.Register program.now.types.now program.now.terms.now
             self.old self.new (is_err result) }
-        ensures place { LoadCarries R.Register program.now.terms.now self.old result }
+        ensures place { LoadCarries R.Register program.now.types.now program.now.terms.now
+            self.old result }
         ensures lowest { LoadAnswers R.Register program.now.types.now program.now.terms.now
             self.old result }
     {

@@ -1,6 +1,7 @@
 pub mod Members
 pub mod Places
 pub mod Asking
+pub mod Gates
 pub mod Refusing
 pub mod Stepping
 pub mod Doing

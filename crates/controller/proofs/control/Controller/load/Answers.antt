@@ -40,4 +40,5 @@ pub returns-clause-place : goal.returns-clause-place
 returns-clause-place g c =
     let r = g.R.Register in
     let s = c.args.self.now in
-    load_place (r.meaning s.register).makes (held s.shot) c.args.program.now.terms.now c.load.result c.load.ensures.answer
+    let p = c.args.program.now in
+    load_place (r.meaning s.register).makes p.types.now p.terms.now p.checked (held s.shot) c.load.result c.load.ensures.answer
