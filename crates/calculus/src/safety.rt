@@ -41,7 +41,8 @@ pub fn subtyping_is_lawful()
     ensures { SubtypingLaws }
 {}
 
-/// Typing looks at free variables alone, allows subtypes and substitution, and tells a value's form.
+/// Typing looks at free variables alone, allows subtypes and a value for a variable of its type,
+/// and tells a value's form.
 pub fn typing_is_lawful()
     ensures { TypingLaws }
 {}
