@@ -4,11 +4,11 @@ use Rattle.calculus.specs.Types.{Duplicable, Ty, qbit, bang, bangs, Sub, sub_use
 use Rattle.calculus.specs.Terms.{Const, bit_of, const, lam, pair, Running}
 use Rattle.calculus.specs.Contexts.{Context, DuplicableAt}
 use Rattle.calculus.specs.Lemmas.{SubtypingLaws, OnlyQubits, TypingLaws}
-use Rattle.calculus.proofs.Subtyping.{Marking, a_bang, no_bang, marking, sub_refl, sub_trans, sub_bangs}
+use Rattle.calculus.proofs.Subtyping.{Marking, a_bang, no_bang, marking, sub_refl, sub_trans, sub_drop, sub_bangs}
 use Rattle.calculus.proofs.Narrowing.{AtLeast, no_less, at_sub, carry}
 use Rattle.calculus.proofs.Values.{value_duplicable, QubitAt, no_qubit, a_qubit, Plain}
-use Rattle.calculus.proofs.Canonical.{bits, functions, pairs, Form, form_bit, form_measure, form_prepare, form_gate, form_lam, form_pair, canonical}
-use Rattle.calculus.proofs.Preservation.{called}
+use Rattle.calculus.proofs.Canonical.{bits, functions, pairs, Form, form_bit, form_measure, form_prepare, form_gate, form_lam, form_pair, canonical, raise}
+use Rattle.calculus.proofs.Substitution.{put_in}
 
 marked_by : (n m : ℕ) {a b : Ty} → (m ≡ 0) ⊎ (1 ≤ n) → Sub a b → Sub (bangs n a) (bangs m b)
 marked_by zero zero h p = p
@@ -60,7 +60,8 @@ pub typing_laws : TypingLaws
 typing_laws = record {
   narrowed = λ γ δ m a b r p n. carry r p (λ x f. at_least (λ t. n x t f));
   duplicable_value = λ γ v a x is r f. duplicable_some (γ x) (value_duplicable is r tt f);
-  substitution = λ γ γ₁ γ₂ m v a b q s is r k. called (plain q) s is r k;
+  substitution = λ k γ γ₁ γ₂ m v a b s is r q. put_in k s is r q;
+  marked_substitution = λ k n γ γ₁ γ₂ m v a b s is r q. put_in k s is r (raise q (sub_drop n (sub_refl a)));
   function_value = λ γ v a b q is r. of_function (canonical (plain q) is r);
   pair_value = λ γ v a b q is r. of_pair (canonical (plain q) is r);
   bit_value = λ γ v q is r. of_bit (canonical (plain q) is r);

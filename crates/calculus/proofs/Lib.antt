@@ -1,13 +1,17 @@
+pub mod Apart
 pub mod Canonical
+pub mod Covering
 pub mod Determinism
 pub mod Duplicable
 pub mod Erasure
 pub mod Failing
 pub mod FirstTree
+pub mod Keeping
 pub mod Lemmas
 pub mod Narrowing
 pub mod NewCells
 pub mod Preservation
+pub mod Raising
 pub mod ReadTerms
 pub mod ReadTypes
 pub mod Reading

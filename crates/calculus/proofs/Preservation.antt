@@ -1,5 +1,5 @@
 -- Subject reduction.
-use Rattle.std.proofs.Common.{◌≡◌, ℕ, [], ◌∷◌, Some, None, Option, sym, refl, subst, ap₂}
+use Rattle.std.proofs.Common.{◌≡◌, ℕ, zero, suc, [], ◌∷◌, Some, None, Option, sym, refl, subst, ap₂}
 use native.Mathlib.Decide.{ℕ_discrete}
 use Rattle.calculus.specs.Types.{Ty, qbit, tensor, bangs}
 use Rattle.calculus.specs.Terms.{Var, bound, held, Running, Free}
@@ -10,8 +10,9 @@ use Rattle.calculus.specs.Names.{Wires}
 use Rattle.calculus.specs.Safety.{Answerable, SubjectReduction}
 use Rattle.calculus.proofs.Subtyping.{sub_refl, sub_trans, bangs_pair, plain_arrow, arrow_no_bangs}
 use Rattle.calculus.proofs.Narrowing.{AtLeast, no_less, at_least_refl, carry}
-use Rattle.calculus.proofs.Values.{at_left, at_right, nobody, free_present, none_present, QubitAt, a_qubit, Plain, plain_left, plain_right, Below}
-use Rattle.calculus.proofs.Substitution.{two, mixed, wired, swapped, regrouped, Fits, fits, replace}
+use Rattle.calculus.proofs.Values.{at_right, nobody, free_present, none_present, QubitAt, a_qubit, Plain, plain_left, plain_right, Below}
+use Rattle.calculus.proofs.Covering.{swapped, regrouped}
+use Rattle.calculus.proofs.Substitution.{two, put_in}
 use Rattle.calculus.proofs.Ways.{wires_qubits, well_typed}
 use Rattle.calculus.proofs.Canonical.{argument, outcome}
 
@@ -72,21 +73,9 @@ added_here o (yes a) b = refl
 added_here o (no n) b = absurd (n b)
 
 -- The redexes that put values in.
-fits_here : {γ : Context} {v : Running} {a : Ty} → Plain γ → Derives Unclaimed γ v a → Fits v (λ h. γ (held h)) (Some a)
-fits_here {γ} {v} p r = fits p.1 (carry r (sub_refl _) go)
-  where
-    go : (x : Var) → Free x v → AtLeast (wired (λ h. γ (held h)) x) (γ x)
-    go (bound i) f = rw (p.0 i) no_less
-    go (held h) f = at_least_refl _
-
-pub called : {γ γ₁ γ₂ : Context} {m v : Running} {a t : Ty} → Plain γ₂ → Split γ γ₁ γ₂ → Value v → Derives Unclaimed (extended a γ₁) m t → Derives Unclaimed γ₂ v a
-    → Derives Unclaimed γ (substituted 0 (v ∷ []) m) t
-called {γ} {γ₁} {γ₂} {m} {v} {a} p s is r q =
-    carry (replace v is m r 0 (λ h. γ₂ (held h)) (λ h. γ (held h)) (fits_here p q) (λ h. (_, s (held h), at_least_refl _))) (sub_refl _) go
-  where
-    go : (x : Var) → Free x (substituted 0 (v ∷ []) m) → AtLeast (γ x) (mixed 0 (extended a γ₁) (λ h. γ (held h)) x)
-    go (bound i) f = at_left (s (bound i))
-    go (held h) f = at_least_refl _
+abbrev wired : Context → Context
+wired γ (bound i) = None
+wired γ (held h) = γ (held h)
 
 below : {γ : Context} {m : Running} {a : Ty} → Plain γ → Derives Unclaimed γ m a → Below 0 m
 below p r i f = absurd (none_present (p.0 i) (free_present r f))
@@ -94,33 +83,33 @@ below p r i f = absurd (none_present (p.0 i) (free_present r f))
 unpaired : {γ γ₁ γ₂ γ₃ γ₄ : Context} {n v w : Running} {a b t : Ty} → Plain γ → Split γ γ₁ γ₂ → Split γ₁ γ₃ γ₄ → Value v → Value w
     → Derives Unclaimed γ₃ v a → Derives Unclaimed γ₄ w b → Derives Unclaimed (extended b (extended a γ₂)) n t → Derives Unclaimed γ (substituted 0 (w ∷ v ∷ []) n) t
 unpaired {γ} {γ₁} {γ₂} {γ₃} {γ₄} {n} {v} {w} {a} {b} {t} p s s' is_v is_w r₁ r₂ r =
-    subst (λ (m : Running). Derives Unclaimed γ m t) (sym (two n 0 w v (below p₄ r₂))) (carry step₂ (sub_refl _) go)
+    subst (λ (m : Running). Derives Unclaimed γ m t) (sym (two n 0 w v (below p₄ r₂))) (put_in 0 (λ x. (rest x).1) is_v step₁ r₁)
   where
-    p₃ : Plain γ₃
-    p₃ = plain_left s' (plain_left s p)
-
     p₄ : Plain γ₄
     p₄ = plain_right s' (plain_left s p)
 
-    rest : (h : ℕ) → (o : Option Ty) × Shared (γ (held h)) o (γ₃ (held h)) × Shared o (γ₄ (held h)) (γ₂ (held h))
-    rest h = regrouped (s (held h)) (swapped (s' (held h)))
+    rest : (x : Var) → (o : Option Ty) × Shared (γ x) o (γ₃ x) × Shared o (γ₄ x) (γ₂ x)
+    rest x = regrouped (s x) (swapped (s' x))
 
-    step₁ : Derives Unclaimed (mixed 0 (extended b (extended a γ₂)) (λ h. (rest h).0)) (substituted 0 (w ∷ []) n) t
-    step₁ = replace w is_w n r 0 (λ h. γ₄ (held h)) (λ h. (rest h).0) (fits_here p₄ r₂) (λ h. (_, swapped (rest h).2, at_least_refl _))
+    -- the value has no binder's variable, and so none of the one that is between
+    held_apart : (x : Var) → Shared (extended a (λ y. (rest y).0) x) (extended a γ₂ x) (wired γ₄ x)
+    held_apart (bound zero) = to_left
+    held_apart (bound (suc i)) = subst (Shared ((rest (bound i)).0) (γ₂ (bound i))) (p₄.0 i) (swapped (rest (bound i)).2)
+    held_apart (held h) = swapped (rest (held h)).2
 
-    step₂ : Derives Unclaimed (mixed 0 (mixed 0 (extended b (extended a γ₂)) (λ h. (rest h).0)) (λ h. γ (held h))) (substituted 0 (v ∷ []) (substituted 0 (w ∷ []) n)) t
-    step₂ = replace v is_v (substituted 0 (w ∷ []) n) step₁ 0 (λ h. γ₃ (held h)) (λ h. γ (held h)) (fits_here p₃ r₁) (λ h. (_, (rest h).1, at_least_refl _))
+    only_held : (x : Var) → Free x w → AtLeast (wired γ₄ x) (γ₄ x)
+    only_held (bound i) f = rw (p₄.0 i) no_less
+    only_held (held h) f = at_least_refl _
 
-    go : (x : Var) → Free x (substituted 0 (v ∷ []) (substituted 0 (w ∷ []) n)) → AtLeast (γ x) (mixed 0 (mixed 0 (extended b (extended a γ₂)) (λ h. (rest h).0)) (λ h. γ (held h)) x)
-    go (bound i) f = at_right (s (bound i))
-    go (held h) f = at_least_refl _
+    step₁ : Derives Unclaimed (extended a (λ x. (rest x).0)) (substituted 0 (w ∷ []) n) t
+    step₁ = put_in 0 held_apart is_w r (carry r₂ (sub_refl _) only_held)
 
 same_parts : (k l : ℕ) (a b x y : Ty) → bangs k (tensor a b) ≡ bangs l (tensor x y) → (bangs l x ≡ bangs k a) × (bangs l y ≡ bangs k b)
 same_parts k l a b x y e = let q = bangs_pair k l a b x y e in (sym (ap₂ bangs q.0 q.1), sym (ap₂ bangs q.0 q.2))
 
 keeps : {γ : Context} {m n : Running} {e : Effect} {t : Ty} → Plain γ → Fresh e γ → Reduces m e n → Derives Unclaimed γ m t → Derives Unclaimed (after e γ) n t
 keeps p f (apply_function v) (rule_application _ s (rule_function _ q r₁) r₂) =
-    let e = plain_arrow q in subst (Derives Unclaimed _ _) (sym e.1) (called (plain_right s p) s v r₁ (subst (Derives Unclaimed _ _) e.0 r₂))
+    let e = plain_arrow q in subst (Derives Unclaimed _ _) (sym e.1) (put_in 0 s v r₁ (subst (Derives Unclaimed _ _) e.0 r₂))
 keeps p f (apply_function v) (rule_application _ s (rule_duplicable_function n _ q g r₁) r₂) = absurd (arrow_no_bangs n _ q)
 keeps p f (open_pair v w) (rule_let k a b _ s (rule_pair l x y _ s' q r₁ r₂) r) =
     let e = same_parts k l a b x y q in unpaired p s s' v w (subst (Derives Unclaimed _ _) e.0 r₁) (subst (Derives Unclaimed _ _) e.1 r₂) r

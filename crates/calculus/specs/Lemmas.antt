@@ -2,7 +2,7 @@
 use Rattle.std.specs.Prelude.{◌≡◌, ℕ, ◌≤◌, Bool, ◌⊎◌, [], ◌∷◌, Some, None, ◌≢◌}
 use Rattle.calculus.specs.Types.{Ty, bit, qbit, bang, arrow, tensor, bangs, Sub}
 use Rattle.calculus.specs.Terms.{Const, bit_of, Var, bound, held, const, lam, pair, Running, Free}
-use Rattle.calculus.specs.Contexts.{Context, extended, Split}
+use Rattle.calculus.specs.Contexts.{Context, inserted, inside, Split}
 use Rattle.calculus.specs.Typing.{Derives, Unclaimed}
 use Rattle.calculus.specs.Reduction.{Value, substituted}
 
@@ -25,9 +25,17 @@ pub record TypingLaws : Type 0 where
       → ((x : Var) (t : Ty) → Free x m → γ x ≡ Some t → (s : Ty) × (δ x ≡ Some s) × Sub s t) → Derives Unclaimed δ m b
   -- A value of a duplicable type has only duplicable free variables.
   pub duplicable_value : (γ : Context) (v : Running) (a : Ty) (x : Var) → Value v → Derives Unclaimed γ v (bang a) → Free x v → (b : Ty) × (γ x ≡ Some (bang b))
-  -- A value of qubits alone may stand for a variable of its type.
-  pub substitution : (γ γ₁ γ₂ : Context) (m v : Running) (a b : Ty) → OnlyQubits γ₂ → Split γ γ₁ γ₂ → Value v
-      → Derives Unclaimed (extended a γ₁) m b → Derives Unclaimed γ₂ v a → Derives Unclaimed γ (substituted 0 (v ∷ []) m) b
+  -- A value may stand for a variable of its type: for the nearest, where k is 0, or for one past
+  -- k nearer binders, which the value stands outside of.
+  pub substitution : (k : ℕ) (γ γ₁ γ₂ : Context) (m v : Running) (a b : Ty)
+      → Split γ γ₁ (inside k γ₂) → Value v
+      → Derives Unclaimed (inserted k a γ₁) m b → Derives Unclaimed γ₂ v a
+      → Derives Unclaimed γ (substituted k (v ∷ []) m) b
+  -- So may a value of this type with marks before it.
+  pub marked_substitution : (k n : ℕ) (γ γ₁ γ₂ : Context) (m v : Running) (a b : Ty)
+      → Split γ γ₁ (inside k γ₂) → Value v
+      → Derives Unclaimed (inserted k a γ₁) m b → Derives Unclaimed γ₂ v (bangs n a)
+      → Derives Unclaimed γ (substituted k (v ∷ []) m) b
   -- A value's type tells its form.
   pub function_value : (γ : Context) (v : Running) (a b : Ty) → OnlyQubits γ → Value v → Derives Unclaimed γ v (arrow a b)
       → ((m : Running) × (v ≡ lam tt m)) ⊎ ((k : Const) × (v ≡ const tt k) × ((o : Bool) → k ≢ bit_of o))

@@ -74,6 +74,8 @@ pub data Reduces : Running → Effect → Running → Type 0 where
   take_else : {c d : Unit {0}} {m n : Running} → Reduces (if_then_else c (const d (bit_of false)) m n) silent n
   prepare_qubit : {c d e : Unit {0}} {b : Bool} {h : ℕ} → Reduces (app c (const d new) (const e (bit_of b))) (prepares b h) (var c (held h))
   read_qubit : {c d e : Unit {0}} {h : ℕ} {b : Bool} → Reduces (app c (const d meas) (var e (held h))) (reads h b) (const c (bit_of b))
+  -- The article also asks that the qubits be pairwise distinct. Here a gate goes by its argument's shape, and it is the register that
+  -- refuses a gate on one qubit twice. Of a well-typed term the qubits are distinct: Safety.GatesAreApart.
   apply_gate : {c d : Unit {0}} {u : Gate} {hs : List ℕ} {a : Running} → Operands u hs a → Reduces (app c (const d (gate u)) a) (applies u hs) a
   in_argument : {c : Unit {0}} {m n n' : Running} {e : Effect} → Reduces n e n' → Reduces (app c m n) e (app c m n')
   in_function : {c : Unit {0}} {m m' v : Running} {e : Effect} → Value v → Reduces m e m' → Reduces (app c m v) e (app c m' v)

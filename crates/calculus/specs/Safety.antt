@@ -26,6 +26,10 @@ pub data Goes : Running → Type 0 where
 abbrev pub Progress : Type 0
 Progress = (m : Running) (a : Ty) → WellTyped m a → (Value m → ⊥) → Goes m
 
+-- A well-typed term applies gates to pairwise distinct qubits, as the article's rule for gates asks.
+abbrev pub GatesAreApart : Type 0
+GatesAreApart = (m n : Running) (u : Gate) (hs : List ℕ) (a : Ty) → WellTyped m a → Reduces m (applies u hs) n → Distinct hs
+
 abbrev pub NoWayNamesTwice : Type 0
 NoWayNamesTwice = (m : Running) (a : Ty) (hs : List ℕ) → WellTyped m a → Way m hs → Distinct hs
 

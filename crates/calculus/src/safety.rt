@@ -3,89 +3,71 @@
 ghost use Rattle.calculus.specs.Erasure.{ErasureLaws};
 ghost use Rattle.calculus.specs.Lemmas.{SubtypingLaws, TypingLaws};
 ghost use Rattle.calculus.specs.Runs.{SafeRuns};
-ghost use Rattle.calculus.specs.Safety.{SubjectReduction, Progress, NoWayNamesTwice, Deterministic, ValuesRest, OneRequest, DuplicableValuesNameNone};
+ghost use Rattle.calculus.specs.Safety.{SubjectReduction, Progress, GatesAreApart, NoWayNamesTwice, Deterministic, ValuesRest, OneRequest, DuplicableValuesNameNone};
 ghost use Rattle.calculus.specs.Samples.{Judged};
 
 /// A well-typed term that takes a step keeps its type.
-pub fn terms_keep_their_type() -> u8
+pub fn terms_keep_their_type()
     ensures { SubjectReduction }
-{
-    0
-}
+{}
 
 /// A well-typed term that is no value takes a step, whatever the register answers.
-pub fn terms_go_on() -> u8
+pub fn terms_go_on()
     ensures { Progress }
-{
-    0
-}
+{}
+
+/// A gate that a well-typed term applies is given no qubit twice.
+pub fn gates_are_apart()
+    ensures { GatesAreApart }
+{}
 
 /// No way through a well-typed term names a qubit twice.
-pub fn no_way_names_twice() -> u8
+pub fn no_way_names_twice()
     ensures { NoWayNamesTwice }
-{
-    0
-}
+{}
 
 /// A term and what the register answers determine the next term.
-pub fn steps_are_determined() -> u8
+pub fn steps_are_determined()
     ensures { Deterministic }
-{
-    0
-}
+{}
 
 /// A value takes no step.
-pub fn values_rest() -> u8
+pub fn values_rest()
     ensures { ValuesRest }
-{
-    0
-}
+{}
 
 /// Subtyping is a preorder, and goes along with marks of duplicability.
-pub fn subtyping_is_lawful() -> u8
+pub fn subtyping_is_lawful()
     ensures { SubtypingLaws }
-{
-    0
-}
+{}
 
-/// Typing looks at free variables alone, allows subtypes and substitution, and tells a value's form.
-pub fn typing_is_lawful() -> u8
+/// Typing looks at free variables alone, allows subtypes and a value for a variable of its type,
+/// and tells a value's form.
+pub fn typing_is_lawful()
     ensures { TypingLaws }
-{
-    0
-}
+{}
 
 /// Wherever a run of a well-typed term comes, the term has its type, and is a value or has a next step.
-pub fn runs_are_safe() -> u8
+pub fn runs_are_safe()
     ensures { SafeRuns }
-{
-    0
-}
+{}
 
 /// Of two terms that differ in one handle, one is well-typed and one is not.
-pub fn samples_are_judged() -> u8
+pub fn samples_are_judged()
     ensures { Judged }
-{
-    0
-}
+{}
 
 /// A term asks the register for one thing, and its next term has one size, whatever the answer.
-pub fn requests_are_one() -> u8
+pub fn requests_are_one()
     ensures { OneRequest }
-{
-    0
-}
+{}
 
 /// A value of a duplicable type names no qubit.
-pub fn duplicable_values_name_none() -> u8
+pub fn duplicable_values_name_none()
     ensures { DuplicableValuesNameNone }
-{
-    0
-}
+{}
 
 /// A term that claims nothing has every type that its claimed form has.
-pub fn claims_may_be_forgotten() -> u8
+pub fn claims_may_be_forgotten()
     ensures { ErasureLaws }
-{
-    0
-}
+{}
