@@ -1,8 +1,9 @@
 -- The type that the root of an accepted program claims, as a part of its table.
-use Rattle.std.proofs.Common.{◌≡◌, ℕ, suc, ◌+◌, ◌-◌, ◌≤◌, true, List, ◌++◌, length, take, drop, Some, Option, unwrap_or, sym, refl, ap, ap₂, ◌∙◌, arith}
+use Rattle.std.proofs.Common.{◌≡◌, ℕ, suc, ◌+◌, ◌-◌, ◌≤◌, true, List, ◌++◌, length, take, drop, Some, None, Option, unwrap_or, cond, nat_le, sym, refl, ap, ap₂, ◌∙◌, arith}
 use Rattle.std.proofs.lemmas.List.{append_assoc, length-append, length-drop}
 use Rattle.std.proofs.Math.Seq.{take-append_seam}
-use Rattle.trees.specs.Reach.{ends}
+use Rattle.std.proofs.lemmas.Bool.{le-leb}
+use Rattle.trees.specs.Reach.{ends, copied_count, fronted}
 use Rattle.calculus.specs.declared.cells.TypeCell.{TypeCell}
 use Rattle.calculus.specs.declared.cells.TermCell.{TermCell}
 use Rattle.calculus.specs.Types.{Ty, bit, qbit, unit, bang, arrow, tensor}
@@ -74,3 +75,39 @@ root_part types table terms nodes root end r a et em er e u = go (whole_tables t
         let is : take (end - root) (drop root table) ≡ cs = ap₂ take n there ∙ take-append_seam cs ds in
         let s = ap length is in
         record { rises = omega arith; within = omega arith; cells = is; few = omega arith }
+
+room_for : (n m room : ℕ) → n ≡ m → m ≤ room → cond (nat_le n room) (Some n) None ≡ Some m
+room_for n m room e l = ap (λ k. cond (nat_le k room) (Some k) None) e ∙ ap (λ b. cond b (Some m) None) (le-leb m room l)
+
+-- The root's type has been copied to the front of a table.
+pub record RootCopied (types : List TypeCell) (terms : List TermCell) (answer : Option ℕ) (table : List TypeCell) : Type 0 where
+  pub count : answer ≡ Some (length (root_cells types terms))
+  pub front : take (length (root_cells types terms)) table ≡ root_cells types terms
+
+pub root_copied : (types table : List TypeCell) (terms nodes : List TermCell) (root : ℕ) (to to' : List TypeCell) (r : Option ℕ)
+    → accepts types terms ≡ true → table ≡ types → nodes ≡ terms → root ≡ root_claim nodes → length to ≡ 256
+    → r ≡ copied_count (ends kind_arity 1 (drop root table) root) root (length to) → to' ≡ fronted r (drop root table) to
+    → RootCopied types terms r to'
+root_copied types table terms nodes root to to' r a et em er room e f = record { count = counts; front = front }
+  where
+    part : RootPart types terms table root (root_claim terms + length (root_cells types terms))
+    part = root_part types table terms nodes root _ _ a et em er refl (root_reached types table terms nodes root _ a et em er refl)
+
+    at : root ≡ root_claim terms
+    at = er ∙ ap root_claim em
+
+    long : root_claim terms + length (root_cells types terms) - root ≡ length (root_cells types terms)
+    long = let q = at in omega arith
+
+    cells : take (length (root_cells types terms)) (drop root table) ≡ root_cells types terms
+    cells = ap (λ n. take n (drop root table)) (sym long) ∙ part.cells
+
+    few : length (root_cells types terms) ≤ length to
+    few = let x = part.few in let y = ap length part.cells in omega arith
+
+    counts : r ≡ Some (length (root_cells types terms))
+    counts = e ∙ ap (λ o. copied_count o root (length to)) (root_reached types table terms nodes root _ a et em er refl) ∙ room_for _ _ _ long few
+
+    front : take (length (root_cells types terms)) to' ≡ root_cells types terms
+    front = ap (take (length (root_cells types terms))) (f ∙ ap (λ o. fronted o (drop root table) to) counts ∙ ap (λ xs. xs ++ drop (length (root_cells types terms)) to) cells)
+        ∙ take-append_seam (root_cells types terms) (drop (length (root_cells types terms)) to)

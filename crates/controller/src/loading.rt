@@ -1,15 +1,15 @@
 //! Loading a program, and unloading it.
 
-ghost use Rattle.std.specs.Prelude.{◌≡◌, ◌≤◌, map, length, MatchResult};
+ghost use Rattle.std.specs.Prelude.{◌≡◌, ◌≤◌, map, length, take, MatchResult};
 ghost use Rattle.controller.specs.Loading.{is_made, first_unmade, load_answer};
 ghost use Rattle.controller.specs.Shots.{claiming_nothing, held, nothing_held, program_held, root_cells, root_claim};
 
 use crate::faults::{ControllerFault, Refusal};
 use crate::shot::{Shot, refill};
-use calculus::{Gate, TermCell, TypeCell};
+use calculus::{Gate, MOST_TYPE_CELLS, TermCell, TypeCell};
 use checker::Accepted;
 use registers::Register;
-use trees::{first_failing, reach};
+use trees::{copy, first_failing};
 
 // Whether a cell names no gate, or one that the register makes.
 fn is_made<R: Register>(register: &R, cell: &TermCell) -> bool
@@ -34,15 +34,16 @@ fn root_claim(terms: &[TermCell]) -> usize
     terms.first().map_or(0, |root| root.claim as usize)
 }
 
-// The cells of the type that a program's root claims.
-fn root_cells<'a>(program: &Accepted<'a>) -> &'a [TypeCell]
-    ensures cells { result.now ≡ root_cells program.now.types.now program.now.terms.now }
-    ensures few { length result.now ≤ 256 }
+// Copies the cells of the type that a program's root claims to the front of a table, and answers
+// their count.
+fn copy_root_type(program: &Accepted, table: &mut [TypeCell]) -> usize
+    requires { length table.old ≡ 256 }
+    ensures cells { take result table.new
+        ≡ root_cells program.now.types.now program.now.terms.now }
+    ensures within { result ≤ length table.new }
+    ensures length { length table.new ≡ 256 }
 {
-    let types = program.types();
-    let root = root_claim(program.terms());
-    let end = reach(types, root).unwrap();
-    &types[root..end]
+    copy(program.types(), root_claim(program.terms()), table).unwrap()
 }
 
 // The first cell that names a gate which the register does not make.
@@ -65,7 +66,9 @@ impl Shot {
         }
         refill(&mut self.cells, terms);
         forget_claims(&mut self.cells);
-        refill(&mut self.kinds, root_cells(program));
+        let mut kinds = [TypeCell::default(); MOST_TYPE_CELLS];
+        let len = copy_root_type(program, &mut kinds);
+        refill(&mut self.kinds, &kinds[..len]);
         self.steps = 0;
         Ok(terms.len())
     }
