@@ -1,11 +1,10 @@
 -- What the rule at a cell asks of the register, and the register's answer.
-use Rattle.std.specs.Prelude.{ℕ, Bool, cond, List, [], ◌∷◌, map, Ok, Err, Result, ◌==◌, nat_lt, slice_index_or}
-use Rattle.calculus.specs.Cells.{blank}
+use Rattle.std.specs.Prelude.{ℕ, Bool, if◌then◌else◌, List, [], ◌∷◌, Ok, Err, Result, ◌==◌, nat_lt, slice_get}
+use Rattle.std.specs.Option.{ok_or}
 use Rattle.calculus.specs.declared.gates.Gate.{Gate}
 use Rattle.calculus.specs.declared.gates.Gate.TheVariants.{H, X, Z, S, T, Cnot, Swap, Toffoli}
 use Rattle.calculus.specs.declared.cells.TermCell.{TermCell}
 use Rattle.calculus.specs.Gates.{gate_of}
-use Rattle.calculus.specs.Reading.{or_toffoli}
 use Rattle.finder.specs.declared.rules.Rule.{Rule}
 use Rattle.finder.specs.declared.rules.Rule.TheVariants.{Function, Pair, Then, Else, Prepare, Read, Gates}
 use Rattle.registers.specs.declared.fault.RegisterFault.{RegisterFault}
@@ -15,15 +14,31 @@ use Rattle.registers.specs.Answers.{prepare_answer, gate_answer, read_answer}
 use Rattle.stepper.specs.declared.writing.Answer.{Answer}
 use Rattle.stepper.specs.declared.writing.Answer.TheVariants.{Nothing, Handle, Outcome}
 use Rattle.controller.specs.declared.faults.ControllerFault.{ControllerFault}
-use Rattle.controller.specs.declared.faults.ControllerFault.TheVariants.{Register}
+use Rattle.controller.specs.declared.faults.ControllerFault.TheVariants.{NoRule, Register}
 
--- a cell, or past the last a blank one
-abbrev pub cell_at : List TermCell → ℕ → TermCell
-cell_at cs at = slice_index_or cs at blank
+-- what is made of an answer, if there is one
+abbrev pub on_ok : {A B F : Type 0} → Result A F → (A → Result B F) → Result B F
+on_ok (Ok x) f = f x
+on_ok (Err e) f = Err e
 
--- the handle that a cell names, or one that no qubit has
-abbrev pub handle_of : TermCell → ℕ
-handle_of c = cond (nat_lt c.argument 32) c.argument 255
+abbrev pub if_ok : {A B F : Type 0} → Result A F → B → (A → B) → B
+if_ok (Ok x) b f = f x
+if_ok (Err e) b f = b
+
+-- The cells are those from a redex on. Where they are no redex of the rule there is no rule for them.
+abbrev pub cell_at : List TermCell → ℕ → Result TermCell ControllerFault
+cell_at cs at = ok_or (slice_get cs at) NoRule
+
+-- the handle that a cell names
+abbrev pub handle_in : TermCell → Result ℕ ControllerFault
+handle_in c = if nat_lt c.argument 32 then Ok c.argument else Err NoRule
+
+abbrev pub qubit_at : List TermCell → ℕ → Result ℕ ControllerFault
+qubit_at cs at = on_ok (cell_at cs at) handle_in
+
+abbrev pub qubits_at : List TermCell → List ℕ → Result (List ℕ) ControllerFault
+qubits_at cs [] = Ok []
+qubits_at cs (k ∷ ks) = on_ok (qubit_at cs k) (λ h. on_ok (qubits_at cs ks) (λ hs. Ok (h ∷ hs)))
 
 -- the places of a gate's qubits in the cells of its redex: one, a pair, or one and a pair
 abbrev pub qubit_places : Gate → List ℕ
@@ -36,34 +51,34 @@ qubit_places Cnot = 3 ∷ 4 ∷ []
 qubit_places Swap = 3 ∷ 4 ∷ []
 qubit_places Toffoli = 3 ∷ 5 ∷ 6 ∷ []
 
-abbrev pub qubits_at : List TermCell → Gate → List ℕ
-qubits_at cs u = map (λ k. handle_of (cell_at cs k)) (qubit_places u)
+-- what the cells ask for: the bit that is prepared, the qubit that is read, the gate that is applied
+abbrev pub bit_asked : List TermCell → Result Bool ControllerFault
+bit_asked cs = on_ok (cell_at cs 2) (λ c. Ok (c.op == 49))
 
--- what the cells from a redex on ask for: the bit that is prepared, the qubit that is read, the gate that is applied
-abbrev pub bit_asked : List TermCell → Bool
-bit_asked cs = (cell_at cs 2).op == 49
+abbrev pub qubit_asked : List TermCell → Result ℕ ControllerFault
+qubit_asked cs = qubit_at cs 2
 
-abbrev pub qubit_asked : List TermCell → ℕ
-qubit_asked cs = handle_of (cell_at cs 2)
+abbrev pub gate_asked : List TermCell → Result Gate ControllerFault
+gate_asked cs = on_ok (cell_at cs 1) (λ c. ok_or (gate_of c.argument) NoRule)
 
-abbrev pub gate_asked : List TermCell → Gate
-gate_asked cs = or_toffoli (gate_of (cell_at cs 1).argument)
+-- a gate with its qubits
+abbrev pub request : List TermCell → Result (Gate × List ℕ) ControllerFault
+request cs = on_ok (gate_asked cs) (λ u. on_ok (qubits_at cs (qubit_places u)) (λ hs. Ok (u, hs)))
 
 -- an answer as a step takes it, and a refusal entire
 abbrev pub passed : {A : Type 0} → (A → Answer) → Result A RegisterFault → Result Answer ControllerFault
 passed f (Ok x) = Ok (f x)
 passed f (Err e) = Err (Register e)
 
--- The cells are those from the redex on.
 module _ {C : Type 0} (r : Told C) (cs : List TermCell) where
   abbrev pub asked : Rule → Result Answer ControllerFault
   asked Function = Ok Nothing
   asked Pair = Ok Nothing
   asked Then = Ok Nothing
   asked Else = Ok Nothing
-  asked Prepare = passed Handle (prepare_answer r.meaning r.depth r.fresh)
-  asked Read = passed Outcome (read_answer r.meaning r.depth (qubit_asked cs) (r.outcome (qubit_asked cs)))
-  asked Gates = passed (λ _. Nothing) (gate_answer r.meaning r.depth (gate_asked cs) (qubits_at cs (gate_asked cs)))
+  asked Prepare = on_ok (bit_asked cs) (λ b. passed Handle (prepare_answer r.meaning r.depth r.fresh))
+  asked Read = on_ok (qubit_asked cs) (λ h. passed Outcome (read_answer r.meaning r.depth h (r.outcome h)))
+  asked Gates = on_ok (request cs) (λ g. passed (λ _. Nothing) (gate_answer r.meaning r.depth g.0 g.1))
 
   -- the register after its answer
   abbrev pub after_asked : Changes C → Rule → Meaning C
@@ -71,6 +86,6 @@ module _ {C : Type 0} (r : Told C) (cs : List TermCell) where
   after_asked changes Pair = r.meaning
   after_asked changes Then = r.meaning
   after_asked changes Else = r.meaning
-  after_asked changes Prepare = after_prepare changes r.meaning r.fresh (bit_asked cs)
-  after_asked changes Read = after_read changes r.meaning (qubit_asked cs) (r.outcome (qubit_asked cs))
-  after_asked changes Gates = after_gate changes r.meaning (gate_asked cs) (qubits_at cs (gate_asked cs))
+  after_asked changes Prepare = if_ok (bit_asked cs) r.meaning (after_prepare changes r.meaning r.fresh)
+  after_asked changes Read = if_ok (qubit_asked cs) r.meaning (λ h. after_read changes r.meaning h (r.outcome h))
+  after_asked changes Gates = if_ok (request cs) r.meaning (λ g. after_gate changes r.meaning g.0 g.1)

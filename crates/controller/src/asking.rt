@@ -1,10 +1,9 @@
 //! What a step asks of the register.
 
 ghost use Rattle.std.specs.Prelude.{◌≡◌, false, cond, not, ◌&&◌, MatchResult, slice_index_or};
-ghost use Rattle.registers.specs.Answers.{gate_answer};
-ghost use Rattle.registers.specs.Meaning.{after_gate};
+ghost use Rattle.finder.specs.declared.rules.Rule.TheVariants.{Gates};
 ghost use Rattle.registers.specs.Telling.{told};
-ghost use Rattle.controller.specs.Asking.{asked, after_asked, cell_at, handle_of, gate_asked, qubits_at};
+ghost use Rattle.controller.specs.Asking.{asked, after_asked, cell_at, gate_asked, qubit_at};
 ghost use Rattle.controller.specs.Letting.{released, released_all};
 ghost use Rattle.stepper.specs.Naming.{dropped};
 
@@ -21,69 +20,74 @@ pub struct Redex<'a> {
 }
 
 impl<'a> Redex<'a> {
-    // The cell so many places on, or a blank one past the end.
-    fn cell(&self, place: usize) -> TermCell
+    // The cell so many places on.
+    fn cell(&self, place: usize) -> Result<TermCell, ControllerFault>
         ensures { result ≡ cell_at self.now.cells.now place }
     {
-        self.cells.get(place).copied().unwrap_or_default()
+        self.cells
+            .get(place)
+            .copied()
+            .ok_or(ControllerFault::NoRule)
     }
 
-    // The argument of the cell so many places on as a handle; what is none becomes a number that names no qubit.
-    fn handle(&self, place: usize) -> u8
-        ensures { result ≡ handle_of (cell_at self.now.cells.now place) }
+    // The handle of the qubit that the cell so many places on names.
+    fn qubit(&self, place: usize) -> Result<u8, ControllerFault>
+        ensures { result ≡ qubit_at self.now.cells.now place }
     {
-        let argument = self.cell(place).argument;
+        let argument = self.cell(place)?.argument;
         if (argument as usize) < HANDLES {
-            argument as u8
+            Ok(argument as u8)
         } else {
-            u8::MAX
+            Err(ControllerFault::NoRule)
         }
     }
 
-    // The gate that the second cell names; where it names none, the Toffoli gate.
-    fn gate(&self) -> Gate
+    // The gate that the second cell names.
+    fn gate(&self) -> Result<Gate, ControllerFault>
         ensures { result ≡ gate_asked self.now.cells.now }
     {
-        Gate::try_from(self.cell(1).argument).unwrap_or(Gate::Toffoli)
+        Gate::try_from(self.cell(1)?.argument).map_err(|_| ControllerFault::NoRule)
     }
 
     // Applies the gate to its qubits: one, a pair, or one and a pair.
-    fn apply<R: Register>(&self, register: &mut R) -> Result<(), RegisterFault>
-        ensures answer { let u = gate_asked self.now.cells.now in
-            result ≡ gate_answer (R.Register.meaning register.old) (R.Register.depth register.old) u (qubits_at self.now.cells.now u) }
-        ensures state { let u = gate_asked self.now.cells.now in MatchResult result
-            (λ _. R.Register.meaning register.new ≡ after_gate R.Register.changes (R.Register.meaning register.old) u (qubits_at self.now.cells.now u))
+    fn apply<R: Register>(&self, register: &mut R) -> Result<Answer, ControllerFault>
+        ensures answer { result ≡ asked (told R.Register register.old) self.now.cells.now Gates }
+        ensures state { MatchResult result
+            (λ _. R.Register.meaning register.new ≡ after_asked (told R.Register register.old)
+            self.now.cells.now R.Register.changes Gates)
             (λ _. register.new ≡ register.old) }
     {
-        let gate = self.gate();
+        let gate = self.gate()?;
         match gate {
-            Gate::Cnot | Gate::Swap => register.gate(gate, &[self.handle(3), self.handle(4)]),
+            Gate::Cnot | Gate::Swap => register.gate(gate, &[self.qubit(3)?, self.qubit(4)?])?,
             Gate::Toffoli => {
-                register.gate(gate, &[self.handle(3), self.handle(5), self.handle(6)])
+                register.gate(gate, &[self.qubit(3)?, self.qubit(5)?, self.qubit(6)?])?
             },
             Gate::H | Gate::X | Gate::Z | Gate::S | Gate::T => {
-                register.gate(gate, &[self.handle(2)])
+                register.gate(gate, &[self.qubit(2)?])?
             },
         }
+        Ok(Answer::Nothing)
     }
 
     /// Asks the register for what the rule needs, and hands on its answer.
     pub fn ask<R: Register>(&self, register: &mut R, rule: Rule) -> Result<Answer, ControllerFault>
         ensures answer { result ≡ asked (told R.Register register.old) self.now.cells.now rule }
         ensures state { MatchResult result
-            (λ _. R.Register.meaning register.new ≡ after_asked (told R.Register register.old) self.now.cells.now R.Register.changes rule)
+            (λ _. R.Register.meaning register.new ≡ after_asked (told R.Register register.old)
+            self.now.cells.now R.Register.changes rule)
             (λ _. register.new ≡ register.old) }
     {
         match rule {
             Rule::Prepare => {
-                let bit = self.cell(2).op == '1';
+                let bit = self.cell(2)?.op == '1';
                 Ok(Answer::Handle(register.prepare(bit)?))
             },
-            Rule::Read => Ok(Answer::Outcome(register.read(self.handle(2))?)),
-            Rule::Gates => {
-                self.apply(register)?;
-                Ok(Answer::Nothing)
+            Rule::Read => {
+                let qubit = self.qubit(2)?;
+                Ok(Answer::Outcome(register.read(qubit)?))
             },
+            Rule::Gates => self.apply(register),
             Rule::Function | Rule::Pair | Rule::Then | Rule::Else => Ok(Answer::Nothing),
         }
     }
