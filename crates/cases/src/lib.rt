@@ -18,6 +18,8 @@ mod letters;
 #[cfg(test)]
 mod making;
 #[cfg(test)]
+mod playing;
+#[cfg(test)]
 mod prefix;
 #[cfg(test)]
 mod reading;

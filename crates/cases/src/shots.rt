@@ -4,8 +4,8 @@ use listing::{listing, play};
 use std::alloc::{AllocError, Global};
 use std::test::Fail;
 
-// A stored program with a blank for byte 9 and a stroke for byte 10.
-fn stored(heap: Global, text: &str) -> Result<Vec<u8>, AllocError> {
+/// A stored program with a blank for byte 9 and a stroke for byte 10.
+pub fn stored(heap: Global, text: &str) -> Result<Vec<u8>, AllocError> {
     text.bytes()
         .map(|byte| match byte {
             b' ' => b'\t',
