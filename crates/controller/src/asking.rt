@@ -2,6 +2,7 @@
 
 ghost use Rattle.std.specs.Prelude.{◌≡◌, false, cond, not, ◌&&◌, MatchResult, slice_index_or};
 ghost use Rattle.registers.specs.Answers.{gate_answer};
+ghost use Rattle.registers.specs.Depth.{depths};
 ghost use Rattle.registers.specs.Meaning.{after_gate};
 ghost use Rattle.registers.specs.Telling.{told};
 ghost use Rattle.controller.specs.Asking.{asked, after_asked, cell_at, handle_of, gate_asked, qubits_at};
@@ -50,7 +51,8 @@ impl<'a> Redex<'a> {
     // Applies the gate to its qubits: one, a pair, or one and a pair.
     fn apply<R: Register>(&self, register: &mut R) -> Result<(), RegisterFault>
         ensures answer { let u = gate_asked self.now.cells.now in
-            result ≡ gate_answer (R.Register.meaning register.old) (R.Register.depth register.old) u (qubits_at self.now.cells.now u) }
+            result ≡ gate_answer (R.Register.meaning register.old)
+            (depths (R.Register.passed_up register.old)) u (qubits_at self.now.cells.now u) }
         ensures state { let u = gate_asked self.now.cells.now in MatchResult result
             (λ _. R.Register.meaning register.new ≡ after_gate R.Register.changes (R.Register.meaning register.old) u (qubits_at self.now.cells.now u))
             (λ _. register.new ≡ register.old) }
