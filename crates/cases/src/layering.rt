@@ -1,6 +1,7 @@
 //! Caps over caps over a level, and which handle each register answers next.
 
 use crate::asking::{Ask, Asked, Told, asks, holds};
+use crate::burying::Buried;
 use calculus::Gate;
 use registers::{Cap, Entry, Level, Register, Tape};
 use std::process::Abort;
@@ -84,6 +85,39 @@ fn caps(rt: HostRuntime) -> Result<(), Fail> {
     let mut register = Cap::new(Cap::new(Level::new(4, 9), 3), 2);
     assert!(rt; register.makes(Gate::Toffoli) && !register.makes(Gate::H));
     asks(&rt, &mut register, CAPPED)
+}
+
+// The depth below a register that passes everything up, and that of a refusal of a cap over it.
+const DEPTHS: &[(u16, u16)] = &[
+    (0, 2),
+    (1, 3),
+    (65_532, 65_534),
+    (65_533, 65_535),
+    (65_534, 65_535),
+    (65_535, 65_535),
+];
+
+#[test]
+fn depths(rt: HostRuntime) -> Result<(), Fail> {
+    for (depth, want) in DEPTHS {
+        let below = Buried {
+            below: Level::new(4, 0),
+            depth: *depth,
+        };
+        let refused = [
+            Asked(Ask::Prepare(true), Err((41, *want)), 0, 0),
+            Asked(Ask::Gate(Gate::X, &[0]), Err((41, *want)), 0, 0),
+            Asked(Ask::Read(0), Err((41, *want)), 0, 0),
+            Asked(Ask::LetGo(0), Err((45, *want)), 0, 0),
+        ];
+        asks(&rt, &mut Cap::new(below, 4), &refused)?;
+    }
+    let deep = Buried {
+        below: Level::new(4, 9),
+        depth: 65_535,
+    };
+    let own = [Asked(Ask::Prepare(true), Err((42, 0)), 0, 9)];
+    asks(&rt, &mut Cap::new(Cap::new(deep, 4), 0), &own)
 }
 
 // A register of capacity 3 with 20 pulses.

@@ -6,6 +6,8 @@ mod asking;
 #[cfg(test)]
 mod bench;
 #[cfg(test)]
+mod burying;
+#[cfg(test)]
 mod checking;
 #[cfg(test)]
 mod finding;

@@ -1,7 +1,8 @@
 //! A register of one qubit: an example of a register of one's own.
 
 ghost use Rattle.std.specs.Prelude.{◌≡◌, Bool, false};
-ghost use Rattle.registers.specs.Handles.{unused, at_top};
+ghost use Rattle.registers.specs.Depth.{nothing_passed_up};
+ghost use Rattle.registers.specs.Handles.{unused};
 ghost use Rattle.clients.specs.Qubit.{qubit_makes, qubit_changes, qubit_meaning, qubit_owed};
 
 use calculus::Gate;
@@ -39,7 +40,7 @@ impl Register for OneQubit {
 
     ghost outcome = { λ s _. s.bit };
 
-    ghost depth = { λ _. at_top };
+    ghost passed_up = { λ _. nothing_passed_up };
 
     ghost owed = { qubit_owed };
 

@@ -1,6 +1,7 @@
 //! What is done with a register, whichever it is.
 
 ghost use Rattle.std.specs.Result.{MatchResult};
+ghost use Rattle.registers.specs.Depth.{depths};
 ghost use Rattle.clients.specs.Uses.{WasRead, NotRead};
 
 use registers::{Register, RegisterFault};
@@ -12,7 +13,7 @@ pub fn prepare_and_read<R: Register>(register: &mut R, bit: bool) -> Result<bool
         (λ outcome. WasRead R.Register.changes (R.Register.meaning register.old) (R.Register.meaning register.new)
         (R.Register.fresh register.old) bit outcome)
         (NotRead R.Register.changes R.Register.meaning register.old register.new
-        (R.Register.depth register.old) (R.Register.fresh register.old) bit) }
+        (depths (R.Register.passed_up register.old)) (R.Register.fresh register.old) bit) }
 {
     let handle = register.prepare(bit)?;
     let outcome = register.read(handle);

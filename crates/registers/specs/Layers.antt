@@ -1,14 +1,11 @@
 -- A limit on the live handles of the register below.
-use Rattle.std.specs.Prelude.{◌≡◌, ℕ, ◌+◌, min, cond, Ok, Err, Result, nat_le}
+use Rattle.std.specs.Prelude.{◌≡◌, ℕ, min, cond, Ok, Err, Result, Option, Some, None, nat_le}
 use Rattle.std.proofs.Common.{arith}
 use Rattle.registers.specs.declared.fault.RegisterReason.{RegisterReason}
 use Rattle.registers.specs.declared.fault.RegisterReason.TheVariants.{NoPulses, Full, GateNotMade, WrongCount, NotLive, GivenTwice}
 use Rattle.registers.specs.declared.fault.RegisterFault.{RegisterFault}
+use Rattle.registers.specs.Depth.{deeper}
 use Rattle.registers.specs.Meaning.{Meaning, Changes, Owed, after_prepare, after_gate, after_read, after_let_go, after_clear}
-
--- one layer deeper, and at most 65,535
-abbrev pub deeper : ℕ → ℕ
-deeper depth = min (depth + 1) 65535
 
 -- an answer as the layer above passes it on
 abbrev pub passed_on : {A : Type 0} → Result A RegisterFault → Result A RegisterFault
@@ -37,14 +34,14 @@ cap_changes changes = record {
   cleared = λ c. under c.limit (after_clear changes c.below);
 }
 
--- a cap itself refuses for want of room where its limit is reached; all else comes from below
-abbrev pub cap_depth : ℕ → ℕ → (RegisterReason → ℕ) → RegisterReason → ℕ
-cap_depth limit count below NoPulses = deeper (below NoPulses)
-cap_depth limit count below Full = cond (nat_le limit count) 0 (deeper (below Full))
-cap_depth limit count below GateNotMade = deeper (below GateNotMade)
-cap_depth limit count below WrongCount = deeper (below WrongCount)
-cap_depth limit count below NotLive = deeper (below NotLive)
-cap_depth limit count below GivenTwice = deeper (below GivenTwice)
+-- a cap itself refuses for want of room where its limit is reached; all else it passes up, from the depth below
+abbrev pub cap_passes_up : ℕ → ℕ → (RegisterReason → ℕ) → RegisterReason → Option ℕ
+cap_passes_up limit count below NoPulses = Some (below NoPulses)
+cap_passes_up limit count below Full = cond (nat_le limit count) None (Some (below Full))
+cap_passes_up limit count below GateNotMade = Some (below GateNotMade)
+cap_passes_up limit count below WrongCount = Some (below WrongCount)
+cap_passes_up limit count below NotLive = Some (below NotLive)
+cap_passes_up limit count below GivenTwice = Some (below GivenTwice)
 
 -- a meaning but for its content
 abbrev pub but_content : {C : Type 0} → Meaning C → Meaning (Unit {0})

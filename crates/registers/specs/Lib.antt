@@ -1,5 +1,6 @@
 pub mod Meaning
 pub mod Answers
+pub mod Depth
 pub mod Sheet
 pub mod Telling
 pub mod Room

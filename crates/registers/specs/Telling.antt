@@ -2,11 +2,12 @@
 use Rattle.std.specs.Prelude.{◌≡◌, ℕ, Bool, take}
 use Rattle.registers.specs.declared.fault.RegisterReason.{RegisterReason}
 use Rattle.registers.specs.declared.register.Register.{Ghosts}
+use Rattle.registers.specs.Depth.{depths}
 use Rattle.registers.specs.Meaning.{Meaning, counted}
 use Rattle.registers.specs.Handles.{next_free, at_top}
 use Rattle.registers.specs.Bits.{Bits, bit_of}
 use Rattle.registers.specs.Journal.{Reel, outcome_next}
-use Rattle.registers.specs.Layers.{Under, cap_depth}
+use Rattle.registers.specs.Layers.{Under, cap_passes_up}
 
 -- Its meaning, and the answers that are its own.
 pub record Told (C : Type 0) : Type 0 where
@@ -16,7 +17,7 @@ pub record Told (C : Type 0) : Type 0 where
   pub outcome : ℕ → Bool
 
 abbrev pub told : {R : Type 0} (kind : Ghosts R) → R → Told kind.Content
-told kind r = record { meaning = kind.meaning r; depth = kind.depth r; fresh = kind.fresh r; outcome = kind.outcome r }
+told kind r = record { meaning = kind.meaning r; depth = depths (kind.passed_up r); fresh = kind.fresh r; outcome = kind.outcome r }
 
 -- A kind of register is settled by a function where that gives, of what a register means, what it tells.
 abbrev pub SettledBy : {R : Type 0} (kind : Ghosts R) → (Meaning kind.Content → Told kind.Content) → Type 0
@@ -34,7 +35,8 @@ level_tells m = record { meaning = m; depth = at_top; fresh = next_free (take m.
 abbrev pub cap_tells : {C : Type 0} → (Meaning C → Told C) → Meaning (Under C) → Told (Under C)
 cap_tells tells m =
     let below = tells m.content.below in
-    record { meaning = m; depth = cap_depth m.content.limit (counted m.content.below.live) below.depth; fresh = below.fresh; outcome = below.outcome }
+    let passed_up = cap_passes_up m.content.limit (counted m.content.below.live) below.depth in
+    record { meaning = m; depth = depths passed_up; fresh = below.fresh; outcome = below.outcome }
 
 -- Over a settled kind, a cap is settled.
 abbrev pub CapSettles : {R X : Type 0} (kind : Ghosts R) (cap : Ghosts X) → ((Meaning kind.Content → Told kind.Content) → Meaning cap.Content → Told cap.Content) → Type 0

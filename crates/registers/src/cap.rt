@@ -2,7 +2,8 @@
 
 ghost use Rattle.std.specs.Prelude.{◌≡◌};
 ghost use Rattle.registers.specs.Meaning.{counted, after_clear};
-ghost use Rattle.registers.specs.Layers.{Under, passed_on, capped, cap_changes, cap_depth, capped_owed};
+ghost use Rattle.registers.specs.Depth.{depths};
+ghost use Rattle.registers.specs.Layers.{Under, passed_on, capped, cap_changes, cap_passes_up, capped_owed};
 
 use crate::fault::{RegisterFault, RegisterReason};
 use crate::register::Register;
@@ -47,7 +48,8 @@ impl<R: Register> Register for Cap<R> {
 
     ghost outcome = { λ s h. R.Register.outcome s.below h };
 
-    ghost depth = { λ s. cap_depth s.limit (counted (R.Register.meaning s.below).live) (R.Register.depth s.below) };
+    ghost passed_up = { λ s. cap_passes_up s.limit (counted (R.Register.meaning s.below).live)
+        (depths (R.Register.passed_up s.below)) };
 
     ghost owed = { λ s. capped_owed s.limit (R.Register.fresh s.below) (R.Register.meaning s.below) (R.Register.owed s.below) };
 

@@ -1,7 +1,8 @@
 //! A register of classical bits.
 
 ghost use Rattle.std.specs.Prelude.{◌≡◌};
-ghost use Rattle.registers.specs.Handles.{next_handle, unused, at_top};
+ghost use Rattle.registers.specs.Handles.{next_handle, unused};
+ghost use Rattle.registers.specs.Depth.{nothing_passed_up};
 ghost use Rattle.registers.specs.Free.{handles_owed};
 ghost use Rattle.registers.specs.Bits.{Bits, zeros, bit_of, flipped, exchanged, level_makes, bits_gated, level_changes, level_bits, level_meaning};
 
@@ -74,7 +75,7 @@ impl Register for Level {
 
     ghost outcome = { λ s h. bit_of s.bits h };
 
-    ghost depth = { λ _. at_top };
+    ghost passed_up = { λ _. nothing_passed_up };
 
     ghost owed = { λ s. handles_owed s.handles level_makes s.pulses (level_bits s) };
 

@@ -1,5 +1,6 @@
 //! What holds of every register, of every cap, of the handles of a tape and a level, and of a fresh level: each function does nothing, and its contract is a promise.
 
+ghost use Rattle.registers.specs.Depth.{DepthsAreCounted};
 ghost use Rattle.registers.specs.Layers.{CapsMerge};
 ghost use Rattle.registers.specs.Next.{NextIsFound};
 ghost use Rattle.registers.specs.Put.{LevelReadsWhatWasPut};
@@ -15,6 +16,14 @@ use crate::tape::Tape;
 /// A call is refused exactly where a row of the sheet of refusals holds for it, and then by the lowest number.
 pub fn refusals_are_exact<R: Register>() -> u8
     ensures { RefusalsAreExact R.Register.Content }
+{
+    0
+}
+
+/// A register's own refusal is at depth 0; none is deeper than 65,535, and one that comes up through n layers is n
+/// deeper, as far as that.
+pub fn depths_are_counted() -> u8
+    ensures { DepthsAreCounted }
 {
     0
 }

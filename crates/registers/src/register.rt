@@ -1,7 +1,8 @@
 //! The calls of a register of qubits, with its meaning as ghost members.
 
-ghost use Rattle.std.specs.Prelude.{◌≡◌, ℕ, Bool, false, MatchResult, slice_index_or};
+ghost use Rattle.std.specs.Prelude.{◌≡◌, ℕ, Bool, false, Option, MatchResult, slice_index_or};
 ghost use Rattle.registers.specs.Meaning.{Meaning, Changes, Owed, counted, after_prepare, after_gate, after_read, after_let_go, after_clear};
+ghost use Rattle.registers.specs.Depth.{depths};
 ghost use Rattle.registers.specs.Answers.{prepare_answer, gate_answer, read_answer, let_go_answer};
 ghost use Rattle.registers.specs.declared.fault.RegisterReason.{RegisterReason};
 
@@ -23,8 +24,9 @@ pub trait Register {
 
     ghost outcome: { Self → ℕ → Bool };
 
-    // How many layers lie above the register that refuses for a reason.
-    ghost depth: { Self → RegisterReason → ℕ };
+    // Of each reason of refusal the depth of the fault from below that is passed up for it, and none where the
+    // refusal is the register's own.
+    ghost passed_up: { Self → RegisterReason → Option ℕ };
 
     ghost owed: { (s : Self) → Owed (meaning s) (fresh s) };
 
@@ -50,28 +52,28 @@ pub trait Register {
 
     /// Prepares a qubit at the bit and answers its handle, for one pulse.
     fn prepare(&mut self, bit: bool) -> Result<u8, RegisterFault>
-        ensures answer { result ≡ prepare_answer (meaning self.old) (depth self.old) (fresh self.old) }
+        ensures answer { result ≡ prepare_answer (meaning self.old) (depths (passed_up self.old)) (fresh self.old) }
         ensures state { MatchResult result
             (λ h. meaning self.new ≡ after_prepare changes (meaning self.old) h bit)
             (λ _. self.new ≡ self.old) };
 
     /// Applies a gate to the qubits, in their order, for one pulse.
     fn gate(&mut self, gate: Gate, on: &[u8]) -> Result<(), RegisterFault>
-        ensures answer { result ≡ gate_answer (meaning self.old) (depth self.old) gate on.now }
+        ensures answer { result ≡ gate_answer (meaning self.old) (depths (passed_up self.old)) gate on.now }
         ensures state { MatchResult result
             (λ _. meaning self.new ≡ after_gate changes (meaning self.old) gate on.now)
             (λ _. self.new ≡ self.old) };
 
     /// Reads a qubit, which stays live, for one pulse.
     fn read(&mut self, handle: u8) -> Result<bool, RegisterFault>
-        ensures answer { result ≡ read_answer (meaning self.old) (depth self.old) handle (outcome self.old handle) }
+        ensures answer { result ≡ read_answer (meaning self.old) (depths (passed_up self.old)) handle (outcome self.old handle) }
         ensures state { MatchResult result
             (λ b. meaning self.new ≡ after_read changes (meaning self.old) handle b)
             (λ _. self.new ≡ self.old) };
 
     /// Lets go of a qubit, for no pulse.
     fn let_go(&mut self, handle: u8) -> Result<(), RegisterFault>
-        ensures answer { result ≡ let_go_answer (meaning self.old) (depth self.old) handle }
+        ensures answer { result ≡ let_go_answer (meaning self.old) (depths (passed_up self.old)) handle }
         ensures state { MatchResult result
             (λ _. meaning self.new ≡ after_let_go changes (meaning self.old) handle)
             (λ _. self.new ≡ self.old) };

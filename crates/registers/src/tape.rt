@@ -1,7 +1,8 @@
 //! A register that answers the outcomes it was handed and writes down what each pulse did.
 
 ghost use Rattle.std.specs.Prelude.{◌≡◌, ◌<◌, length};
-ghost use Rattle.registers.specs.Handles.{next_handle, at_top};
+ghost use Rattle.registers.specs.Handles.{next_handle};
+ghost use Rattle.registers.specs.Depth.{nothing_passed_up};
 ghost use Rattle.registers.specs.Free.{handles_owed};
 ghost use Rattle.registers.specs.Journal.{Reel, filled, pulses_left, outcome_next, tape_changes, tape_reel, tape_makes, tape_meaning, new_tape};
 
@@ -63,7 +64,7 @@ impl<'a> Register for Tape<'a> {
 
     ghost outcome = { λ s _. outcome_next (tape_reel s) };
 
-    ghost depth = { λ _. at_top };
+    ghost passed_up = { λ _. nothing_passed_up };
 
     ghost owed = { λ s. handles_owed s.handles tape_makes (pulses_left (tape_reel s)) (tape_reel s) };
 
