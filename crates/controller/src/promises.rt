@@ -6,8 +6,6 @@ use registers::Register;
 
 /// Wherever a controller is, its place is sound: the live qubits are exactly those that the running term names, the term has its
 /// loaded type, and a step of what is no value is refused for want of cells, of a pulse or of room alone.
-pub fn every_controller_is_sound<R: Register>() -> u8
+pub fn every_controller_is_sound<R: Register>()
     ensures { EveryControllerIsSound R.Register }
-{
-    0
-}
+{}
