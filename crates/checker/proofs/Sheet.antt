@@ -377,3 +377,7 @@ first_row_answers types terms v = (
   λ a. one_answer (Holds types terms) Sooner fault_of (λ p q _ _. places_ordered p q) (program_verdict types terms) v (program_said types terms) a,
   λ e. subst (Said (Holds types terms)) e (program_said types terms),
 )
+
+-- an answer that is the verdict is the first row
+pub first_row_is : (types : List TypeCell) (terms : List TermCell) (v : Verdict) → v ≡ program_verdict types terms → Answers (Holds types terms) Sooner fault_of v
+first_row_is types terms v e = subst (Said (Holds types terms)) (sym e) (program_said types terms)

@@ -3,7 +3,8 @@
 ghost use Rattle.std.specs.Prelude.{◌≡◌, ◌↔◌, true, is_ok, IfOk};
 ghost use Rattle.checker.specs.Accepting.{CheckingIsExact, IsDerivable, accepts, program_verdict};
 ghost use Rattle.checker.specs.Judging.{verdict_of};
-ghost use Rattle.checker.specs.Sheet.{FirstRowAnswers};
+ghost use Rattle.checker.specs.Sheet.{FirstRowAnswers, Holds, Sooner, fault_of};
+ghost use Rattle.verdict.specs.Sheet.{Answers};
 ghost use Rattle.checker.specs.Worked.{WorkedPrograms};
 
 use crate::judging::judge_term;
@@ -35,11 +36,13 @@ impl<'a> Accepted<'a> {
     }
 }
 
-/// Checks both tables as wholes, and then the term and its claims against the typing rules; an accepted program is lent its tables.
+/// Checks both tables as wholes, and then the term and its claims against the typing rules; an
+/// accepted program is lent its tables. A refusal is by the first row of the sheet that holds.
 pub fn check<'a>(types: &'a [TypeCell], terms: &'a [TermCell]) -> Result<Accepted<'a>, CheckFault>
     ensures verdict { verdict_of result ≡ program_verdict types.now terms.now }
     ensures tables { IfOk result (λ p. (p.types.now ≡ types.now) × (p.terms.now ≡ terms.now)) }
     ensures derivable { (is_ok result ≡ true) ↔ IsDerivable types.now terms.now }
+    ensures first { Answers (Holds types.now terms.now) Sooner fault_of (verdict_of result) }
 {
     test_tables(types, terms)?;
     judge_term(types, terms)?;
@@ -47,23 +50,17 @@ pub fn check<'a>(types: &'a [TypeCell], terms: &'a [TermCell]) -> Result<Accepte
 }
 
 /// Two tables are accepted just where they store a term that has a derivation with its claims, within the limits.
-pub fn checking_is_exact() -> u8
+pub fn checking_is_exact()
     ensures { CheckingIsExact }
-{
-    0
-}
+{}
 
 /// The verdict on a program is the first row of the sheet that holds for it: acceptance where none
 /// holds, and else the refusal by one, at its cell, before which none does.
-pub fn the_first_row_answers() -> u8
+pub fn the_first_row_answers()
     ensures { FirstRowAnswers }
-{
-    0
-}
+{}
 
 /// Worked programs get the verdicts that they should.
-pub fn worked_programs_are_judged() -> u8
+pub fn worked_programs_are_judged()
     ensures { WorkedPrograms }
-{
-    0
-}
+{}

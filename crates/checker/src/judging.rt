@@ -45,7 +45,7 @@ fn judge_under<'a>(
 
 /// The binders that a term uses, or its first fault: of a cell, then of its parts in order, then on leaving it.
 #[cycle(judge_judge_under)]
-pub fn judge<'a>(node: Node<'a>, scope: &mut Scope<'a>) -> Result<Used, CheckFault>
+pub(crate) fn judge<'a>(node: Node<'a>, scope: &mut Scope<'a>) -> Result<Used, CheckFault>
     ensures verdict { verdict_of result ≡ verdict_from node.entry.at (in_scope scope.old) (term_of node.entry) }
     ensures used { IfOk result (λ u. UsesOf u (depth scope.old) (term_of node.entry)) }
     ensures kept { scope.new ≡ scope.old }
@@ -85,7 +85,7 @@ pub fn judge<'a>(node: Node<'a>, scope: &mut Scope<'a>) -> Result<Used, CheckFau
 }
 
 /// The verdict on the whole term of tables that passed their tests.
-pub fn judge_term(types: &[TypeCell], terms: &[TermCell]) -> Result<(), CheckFault>
+pub(crate) fn judge_term(types: &[TypeCell], terms: &[TermCell]) -> Result<(), CheckFault>
     requires tested { Tested types.now terms.now }
     requires begun { 0 < length terms.now }
     ensures { result ≡ verdict (meaning types.now terms.now 0) }

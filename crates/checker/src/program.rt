@@ -22,7 +22,7 @@ pub struct Program<'a> {
 
 impl<'a> Program<'a> {
     /// The tables, with the ends of the term's trees.
-    pub fn new(types: &'a [TypeCell], terms: &'a [TermCell]) -> Program<'a>
+    pub(crate) fn new(types: &'a [TypeCell], terms: &'a [TermCell]) -> Program<'a>
         requires { Tested types.now terms.now }
         ensures { (result.types.now ≡ types.now) × (result.terms.now ≡ terms.now) }
     {
@@ -50,7 +50,7 @@ impl<'a> Node<'a> {
     ghost use Rattle.subtyping.specs.Meaning.{meant};
 
     /// The term at a place.
-    pub fn new(program: &'a Program<'a>, at: usize) -> Node<'a>
+    pub(crate) fn new(program: &'a Program<'a>, at: usize) -> Node<'a>
         requires { at < length program.now.terms.now }
         ensures { (result.program.now ≡ program.now) × (result.at ≡ at) }
     {
@@ -58,14 +58,14 @@ impl<'a> Node<'a> {
     }
 
     /// The cell that the term begins with.
-    pub fn cell(self) -> TermCell
+    pub(crate) fn cell(self) -> TermCell
         ensures { result ≡ cell_of self.entry }
     {
         self.program.terms[self.at]
     }
 
     /// The type that the term claims.
-    pub fn claim(self) -> TypeAt<'a>
+    pub(crate) fn claim(self) -> TypeAt<'a>
         ensures claimed { meant result ≡ claim_of (term_of self.entry) }
         ensures bare { result.marks ≡ 0 }
     {
@@ -73,7 +73,7 @@ impl<'a> Node<'a> {
     }
 
     /// A part of the term, the parts counted from 0.
-    pub fn part(self, part: usize) -> Node<'a>
+    pub(crate) fn part(self, part: usize) -> Node<'a>
         requires { part < arity (cell_of self) }
         ensures { PartOf self.entry part result }
     {

@@ -130,7 +130,7 @@ fn let_fits(claim: TypeAt<'_>, given: TypeAt<'_>, body: TypeAt<'_>) -> bool
 }
 
 /// Whether the cell of a term and its parts claim what the typing rule of its letter asks.
-pub fn claims_agree(node: Node<'_>, scope: &Scope<'_>) -> bool
+pub(crate) fn claims_agree(node: Node<'_>, scope: &Scope<'_>) -> bool
     ensures { result ≡ claims_fit (in_scope scope.now) (term_of node.entry) }
 {
     let claim = node.claim();

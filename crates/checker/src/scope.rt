@@ -20,7 +20,7 @@ pub struct Scope<'a> {
 
 impl<'a> Scope<'a> {
     /// No binder; the type fills the places that are not in use.
-    pub fn new(blank: TypeAt<'a>) -> Scope<'a>
+    pub(crate) fn new(blank: TypeAt<'a>) -> Scope<'a>
         ensures { result.binders.items ≡ [] }
     {
         Scope {
@@ -61,7 +61,7 @@ fn binders_of(op: char) -> usize
 
 /// The tests of a cell that need only the number of binders in scope.
 #[inline(always)]
-pub fn test_depth(cell: TermCell, at: usize, depth: usize) -> Result<(), CheckFault>
+pub(crate) fn test_depth(cell: TermCell, at: usize, depth: usize) -> Result<(), CheckFault>
     requires { depth ≤ 32 }
     ensures { result ≡ depth_tested at cell.op cell.argument depth }
 {
@@ -77,7 +77,7 @@ fn is_duplicable(binder: TypeAt<'_>) -> bool
 }
 
 /// Whether each binder in scope that is in the set has a duplicable type.
-pub fn is_clear(scope: &Scope<'_>, used: Used) -> bool
+pub(crate) fn is_clear(scope: &Scope<'_>, used: Used) -> bool
     ensures { result ≡ all_duplicable (in_scope scope.now) (used_below used (depth scope.now)) }
 {
     let mut binders = scope.binders.iter().enumerate();

@@ -8,7 +8,7 @@ use trees::{count, first_failing, not_one_tree};
 use verdict::{CheckFault, CheckReason};
 
 /// The tests of both tables as wholes.
-pub fn test_tables(types: &[TypeCell], terms: &[TermCell]) -> Result<(), CheckFault>
+pub(crate) fn test_tables(types: &[TypeCell], terms: &[TermCell]) -> Result<(), CheckFault>
     ensures { result ≡ tables_tested types.now terms.now }
 {
     CheckReason::TooManyCells.refuse_if(types.len() > MOST_TYPE_CELLS, MOST_TYPE_CELLS)?;

@@ -13,14 +13,14 @@ pub struct Used {
 
 impl Used {
     /// No level.
-    pub fn none() -> Used
+    pub(crate) fn none() -> Used
         ensures { (k : ℕ) → has result k ≡ false }
     {
         Used { levels: 0 }
     }
 
     /// One level.
-    pub fn only(level: usize) -> Used
+    pub(crate) fn only(level: usize) -> Used
         requires { level < 32 }
         ensures { (k : ℕ) → has result k ≡ (k == level) }
     {
@@ -28,14 +28,14 @@ impl Used {
     }
 
     /// Whether a level is in the set.
-    pub fn has(self, level: usize) -> bool
+    pub(crate) fn has(self, level: usize) -> bool
         ensures { result ≡ has self level }
     {
         level < MOST_BINDERS && (self.levels >> level) & 1 == 1
     }
 
     /// The levels of one set or the other.
-    pub fn either(self, other: Used) -> Used
+    pub(crate) fn either(self, other: Used) -> Used
         ensures { (k : ℕ) → has result k ≡ (has self k || has other k) }
     {
         Used {
@@ -44,7 +44,7 @@ impl Used {
     }
 
     /// The levels of both sets.
-    pub fn shared(self, other: Used) -> Used
+    pub(crate) fn shared(self, other: Used) -> Used
         ensures { (k : ℕ) → has result k ≡ (has self k && has other k) }
     {
         Used {

@@ -1,7 +1,8 @@
 -- How counts and tables go on, piece by piece.
 use Rattle.std.proofs.Common.{◌≡◌, ℕ, suc, ◌+◌, ◌-◌, ◌<◌, ◌≤◌, cond, leb, List, [], ◌∷◌, ◌++◌, length, get_or, take, drop, Some, None, Option, sym, refl, ap, ap₂, ◌∙◌, add-zero, arith}
 use Rattle.std.specs.Borrow.{Bor}
-use Rattle.std.proofs.lemmas.List.{append_assoc, append-nil, length-append, length-take-le, length-drop, take_at, take_all, take-append-drop, drop_at, drop-drop}
+use Rattle.std.proofs.Math.Seq.{take-append-add}
+use Rattle.std.proofs.lemmas.List.{append-nil, length-append, length-take, length-take-le, length-drop, take_all, take-append-drop, take-append-le, same_lists, places}
 use Rattle.std.proofs.lemmas.Bool.{le-leb, lt-leb}
 use Rattle.std.proofs.lemmas.Bool.Decides.{nat_tests}
 use Rattle.calculus.specs.Cells.{blank}
@@ -11,7 +12,7 @@ use Rattle.stepper.specs.declared.writing.Front.{Front}
 use Rattle.stepper.specs.Front.{Puts, PutsTrees}
 use Rattle.stepper.specs.Parts.{after}
 use Rattle.stepper.specs.Substitution.{depths, substitute_cell, substitute}
-use Rattle.stepper.specs.Writing.{overwritten, put_count, counted, IsPut}
+use Rattle.stepper.specs.Writing.{overlaid, put_count, counted, fronted}
 use Rattle.stepper.proofs.Parts.{after_more, parted_length}
 use Rattle.stepper.proofs.Substitution.{depths_length, substitute_more}
 
@@ -37,44 +38,31 @@ count_more n m xs ys e =
 count_over : (n : ℕ) (xs ys : List TermCell) → None ≡ put_count n xs → put_count n (xs ++ ys) ≡ None
 count_over n xs ys e = many n (xs ++ ys) (omega (arith, too_many n xs e, length-append xs ys))
 
--- and written one after the other
-written_more : (t xs ys : List TermCell) (n m : ℕ) → m ≡ n + length xs → m ≤ length t → overwritten (overwritten t n xs) m ys ≡ overwritten t n (xs ++ ys)
-written_more t xs ys n m e l =
-    let front = take n t ++ xs in
-    let back = drop (n + length xs) t in
-    let long : length front ≡ m = omega (arith, length-append (take n t) xs, length-take-le n t (omega arith)) in
-    let whole : overwritten t n xs ≡ front ++ back = sym (append_assoc (take n t) xs back) in
-    let kept : take m (overwritten t n xs) ≡ front = ap (take m) whole ∙ take_at front back m long in
-    let past : drop (m + length ys) (overwritten t n xs) ≡ drop (n + length (xs ++ ys)) t =
-    sym (drop-drop (length ys) m (overwritten t n xs))
-    ∙ ap (λ zs. drop (length ys) zs) (ap (drop m) whole ∙ drop_at front back m long)
-    ∙ drop-drop (length ys) (n + length xs) t
-    ∙ ap (λ k. drop k t) (omega (arith, length-append xs ys)) in
-    ap₂ (λ us ws. us ++ (ys ++ ws)) kept past
-    ∙ append_assoc (take n t) xs (ys ++ drop (n + length (xs ++ ys)) t)
-    ∙ ap (λ zs. take n t ++ zs) (sym (append_assoc xs ys (drop (n + length (xs ++ ys)) t)))
+overlaid_length : (t : List TermCell) (n : ℕ) (cs : List TermCell) → length (overlaid t n cs) ≡ length t
+overlaid_length t n cs = grind (arith, length-append, length-take, length-drop)
 
-overwritten_length : (t cs : List TermCell) (n : ℕ) → n + length cs ≤ length t → length (overwritten t n cs) ≡ length t
-overwritten_length t cs n l =
-    omega (arith, length-append (take n t) (cs ++ drop (n + length cs) t), length-append cs (drop (n + length cs) t), length-take-le n t (omega arith), length-drop (n + length cs) t)
+-- cells are written one after the other
+written_more : (t xs ys : List TermCell) (n : ℕ) → overlaid (overlaid t n xs) (n + length xs) ys ≡ overlaid t n (xs ++ ys)
+written_more t xs ys n = same_lists _ _ (overlaid_length (overlaid t n xs) (n + length xs) ys ∙ overlaid_length t n xs ∙ sym (overlaid_length t n (xs ++ ys))) (λ k d h. grind (arith, places))
 
-put_more : (t u w xs ys : List TermCell) (n m : ℕ) → Some m ≡ put_count n xs → IsPut t u n xs → IsPut u w m ys → IsPut t w n (xs ++ ys)
-put_more t u w xs ys n m e f g a b =
-    let sum = sum_of n m xs e in
-    let both = length-append xs ys in
-    let first : u ≡ overwritten t n xs = f (omega arith) (omega arith) in
-    let long = overwritten_length t xs n (omega arith) in
-    let same = ap length first in
-    g (omega arith) (omega arith)
-    ∙ ap (λ zs. overwritten zs m ys) first
-    ∙ written_more t xs ys n m sum.0 (omega arith)
+written_both : (t u w xs ys : List TermCell) (n m : ℕ) → (m ≡ n + length xs) × (m ≤ 1024) → u ≡ overlaid t n (take (1024 - n) xs) → w ≡ overlaid u m (take (1024 - m) ys)
+    → w ≡ overlaid t n (take (1024 - n) (xs ++ ys))
+written_both t u w xs ys n m sum f g =
+    let all : take (1024 - n) xs ≡ xs = take_all (1024 - n) xs (omega arith) in
+    let room : 1024 - n ≡ length xs + (1024 - m) = omega arith in
+    let both : take (1024 - n) (xs ++ ys) ≡ xs ++ take (1024 - m) ys = ap (λ k. take k (xs ++ ys)) room ∙ take-append-add xs ys (1024 - m) in
+    g
+    ∙ ap (λ zs. overlaid zs m (take (1024 - m) ys)) (f ∙ ap (overlaid t n) all)
+    ∙ ap (λ k. overlaid (overlaid t n xs) k (take (1024 - m) ys)) sum.0
+    ∙ written_more t xs (take (1024 - m) ys) n
+    ∙ ap (overlaid t n) (sym both)
 
 -- pieces are put one after the other
 pub puts_more : {A B : Type 0} {x : A} {r : Option B} {f g h : Front} {xs ys : List TermCell} → Puts (Some x) f g xs → Puts r g h ys → Puts r f h (xs ++ ys)
 puts_more {f = f} {g = g} {h = h} {xs = xs} {ys = ys} p q = record {
   same = q.same ∙ p.same;
   count = q.count ∙ sym (count_more f.len g.len xs ys p.count);
-  table = put_more f.table.now g.table.now h.table.now xs ys f.len g.len p.count p.table q.table;
+  table = written_both f.table.now g.table.now h.table.now xs ys f.len g.len (sum_of f.len g.len xs p.count) p.table q.table;
 }
 
 -- where one is too much, so are more
@@ -82,7 +70,7 @@ pub puts_over : {A B : Type 0} {f g : Front} {xs : List TermCell} (ys : List Ter
 puts_over {f = f} {xs = xs} ys p = record {
   same = p.same;
   count = sym (count_over f.len xs ys p.count);
-  table = λ a b. absurd (omega (arith, too_many f.len xs p.count, length-append xs ys));
+  table = p.table ∙ ap (overlaid f.table.now f.len) (sym (take-append-le (1024 - f.len) xs ys (omega (arith, too_many f.len xs p.count))));
 }
 
 -- what is put first is all that is counted
@@ -91,16 +79,31 @@ put_first cs ds e =
     let n : 0 + length cs ≡ length ds = omega (arith, ap length e) in
     ap (λ k. cond (leb k 1024) (Some k) None) n
 
--- where there are too many, nothing is said of the table
-pub never_put : (t u cs : List TermCell) → None ≡ counted cs → IsPut t u 0 cs
-never_put t u cs e = λ a b. absurd (omega (arith, too_many 0 cs (e ∙ sym (put_first cs cs refl))))
+nothing_over : (t : List TermCell) (n : ℕ) → overlaid t n [] ≡ t
+nothing_over t n =
+    ap (λ xs. take n t ++ (xs ++ drop (n + 0) t)) (take_all (length t - n) [] (omega arith))
+    ∙ ap (λ k. take n t ++ drop k t) (add-zero n)
+    ∙ take-append-drop n t
+
+-- and all that is written
+pub over_first : {A : Type 0} {r : Option A} {f g : Front} {cs : List TermCell} (t ds : List TermCell) → f.table.now ≡ t → f.len ≡ 0 → Puts r f g cs → cs ≡ ds → g.table.now ≡ overlaid t 0 (take 1024 ds)
+over_first {cs = cs} t ds e n p q = p.table ∙ ap₂ (λ us k. overlaid us k (take (1024 - k) cs)) e n ∙ ap (λ xs. overlaid t 0 (take 1024 xs)) q
+
+-- a table with room for cells that a running term may have begins with them
+pub begun : (t cs : List TermCell) → length cs ≤ 1024 → length cs ≤ length t → overlaid t 0 (take 1024 cs) ≡ cs ++ drop (length cs) t
+begun t cs few room = ap (overlaid t 0) (take_all 1024 cs few) ∙ ap₂ (λ us k. us ++ drop k t) (take_all (length t - 0) cs (omega arith)) (omega arith)
+
+pub begun_counted : (t cs : List TermCell) (n : ℕ) → Some n ≡ counted cs → n ≤ length t → overlaid t 0 (take 1024 cs) ≡ fronted cs t
+begun_counted t cs n e l =
+    let few : (n ≡ length cs) × (length cs ≤ 1024) = (grind (arith, nat_tests), grind (arith, nat_tests)) in
+    begun t cs few.1 (omega arith) ∙ sym (simp (le-leb (length cs) 1024 few.1, le-leb (length cs) (length t) (omega arith)))
 
 -- nothing is put by leaving the table
 pub puts_none : {A : Type 0} (x : A) (f : Front) → Puts (Some x) f f []
 puts_none x f = record {
   same = refl;
   count = ap Some (sym (add-zero f.len)) ∙ sym (few f.len [] (omega (arith, f.few, add-zero f.len)));
-  table = λ a b. sym (take-append-drop f.len f.table.now) ∙ ap (λ k. take f.len f.table.now ++ drop k f.table.now) (sym (add-zero f.len));
+  table = sym (ap (overlaid f.table.now f.len) (take_all (1024 - f.len) [] (omega arith)) ∙ nothing_over f.table.now f.len);
 }
 
 -- the cells after the first

@@ -18,10 +18,11 @@ use Rattle.finder.specs.declared.rules.Rule.{Rule}
 use Rattle.finder.specs.declared.rules.Rule.TheVariants.{Function, Pair, Then, Else, Prepare, Read, Gates}
 use Rattle.stepper.specs.declared.writing.Answer.{Answer}
 use Rattle.stepper.specs.declared.writing.Answer.TheVariants.{Nothing, Handle, Outcome}
-use Rattle.stepper.specs.Laws.{Closed, answer_of, Fits, fits_function, fits_pair, fits_then, fits_else, fits_prepare, fits_read, fits_gates, Answered, StepLaws}
+use Rattle.stepper.specs.Laws.{Closed, answer_of, Fits, fits_function, fits_pair, fits_then, fits_else, fits_prepare, fits_read, fits_gates, Answered, MakesStep, is_answered, StepLaws}
 use Rattle.stepper.specs.Next.{trees, left, next_cells}
 use Rattle.stepper.specs.Parts.{taken, after}
 use Rattle.stepper.specs.Substitution.{substitute}
+use Rattle.stepper.specs.Writing.{answer_cell}
 use Rattle.stepper.proofs.Allowed.{each_next}
 use Rattle.stepper.proofs.Claims.{unclaims}
 use Rattle.stepper.proofs.Parts.{after_more}
@@ -190,9 +191,8 @@ means cs {e = e} d h k f l = record {
   written = unclaims cs (step_rule d) (step_cell d) (answer_of e) ∙ ap (λ ds. next_cells ds (step_rule d) (step_cell d) (answer_of e)) h.written ∙ steps d k;
 }
 
-found : (cs : List TermCell) (m : Running) (rule : Rule) (at : ℕ) (a : Answer) → Means cs m → Closed m → answer cs ≡ Ok (Some (rule, at)) → Fits rule a
-    → (e : Effect) × (n : Running) × (d : Reduces m e n) × (step_rule d ≡ rule) × (step_cell d ≡ at) × Asks cs rule at e × (answer_of e ≡ a) × (unclaimed (next_cells cs rule at a) ≡ running_cells n)
-found cs m rule at a h k f g =
+pub makes_step : (cs : List TermCell) (rule : Rule) (at : ℕ) (a : Answer) → MakesStep cs rule at a
+makes_step cs rule at a m h k f g =
     let (e, n, d, r, c) = (search_is_reduction.step cs m rule at h).0 f in
     let w = answered d a (subst (λ x. Fits x a) (sym r) g) in
     let rule_is : step_rule w.step ≡ rule = w.same_rule ∙ r in
@@ -212,12 +212,32 @@ found cs m rule at a h k f g =
           ∙ steps w.step k,
     )
 
+disregarded : (cs : List TermCell) (rule : Rule) (at : ℕ) (a b : Answer) → is_answered rule ≡ false → next_cells cs rule at a ≡ next_cells cs rule at b
+disregarded cs Function at a b e = refl
+disregarded cs Pair at a b e = refl
+disregarded cs Then at a b e = refl
+disregarded cs Else at a b e = refl
+disregarded cs Prepare at a b e = absurd (cc)
+disregarded cs Read at a b e = absurd (cc)
+disregarded cs Gates at a b e = refl
+
+stands : (cs : List TermCell) (rule : Rule) (at : ℕ) (a : Answer) → is_answered rule ≡ true → next_cells cs rule at a ≡ take at cs ++ (answer_cell a ∷ after 1 (drop (at + 2) cs))
+stands cs Function at a e = absurd (cc)
+stands cs Pair at a e = absurd (cc)
+stands cs Then at a e = absurd (cc)
+stands cs Else at a e = absurd (cc)
+stands cs Prepare at a e = refl
+stands cs Read at a e = refl
+stands cs Gates at a e = absurd (cc)
+
 pub step_laws : StepLaws
 step_laws = record {
   steps = steps;
   means = means;
   answered = answered;
-  found = found;
+  found = makes_step;
+  disregarded = disregarded;
+  stands = stands;
   unclaims = unclaims;
   same_count = same_count;
   substitutes = λ vs m h. ap (substitute (map running_cells vs) (0 ∷ [])) (sym (append-nil (running_cells m))) ∙ substituted_cells vs h m [];

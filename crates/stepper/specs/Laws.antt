@@ -1,5 +1,5 @@
 -- Steps of the calculus are made on cells.
-use Rattle.std.specs.Prelude.{◌≡◌, ℕ, ◌<◌, ◌≤◌, Bool, List, [], ◌∷◌, length, map, Some, Ok}
+use Rattle.std.specs.Prelude.{◌≡◌, ℕ, ◌+◌, ◌<◌, ◌≤◌, Bool, true, false, List, [], ◌∷◌, ◌++◌, length, take, drop, map, Some, Ok}
 use Rattle.calculus.specs.Types.{Ty}
 use Rattle.calculus.specs.Terms.{bound, Running, Free}
 use Rattle.calculus.specs.Names.{WellTyped}
@@ -15,7 +15,9 @@ use Rattle.finder.specs.declared.rules.Rule.TheVariants.{Function, Pair, Then, E
 use Rattle.stepper.specs.declared.writing.Answer.{Answer}
 use Rattle.stepper.specs.declared.writing.Answer.TheVariants.{Nothing, Handle, Outcome}
 use Rattle.stepper.specs.Next.{next_cells}
+use Rattle.stepper.specs.Parts.{after}
 use Rattle.stepper.specs.Substitution.{substitute}
+use Rattle.stepper.specs.Writing.{answer_cell}
 
 -- no variable of the term is free but qubits
 abbrev pub Closed : Running → Type 0
@@ -52,6 +54,26 @@ pub record Answered {m n : Running} {e : Effect} (d : Reduces m e n) (a : Answer
   pub alike : Alike e effect
   pub answers : answer_of effect ≡ a
 
+-- Where the cells mean a term in which no variable is free, the rule at the cell is the one that the
+-- finder answers, and the answer fits the rule, the next cells are those of the term that a step of
+-- the calculus leaves, but for claims.
+abbrev pub MakesStep : List TermCell → Rule → ℕ → Answer → Type 0
+MakesStep cs rule at a = (m : Running) → Means cs m → Closed m → answer cs ≡ Ok (Some (rule, at))
+    → Fits rule a
+    → (e : Effect) × (n : Running) × (d : Reduces m e n) × (step_rule d ≡ rule) × (step_cell d ≡ at)
+    × Asks cs rule at e × (answer_of e ≡ a)
+    × (unclaimed (next_cells cs rule at a) ≡ running_cells n)
+
+-- whether the register answers something to the rule: a handle or an outcome
+abbrev pub is_answered : Rule → Bool
+is_answered Function = false
+is_answered Pair = false
+is_answered Then = false
+is_answered Else = false
+is_answered Prepare = true
+is_answered Read = true
+is_answered Gates = false
+
 -- How the next term on cells and the steps of the calculus agree.
 pub record StepLaws : Type 0 where
   -- a step's rule at its cell, with the register's answer, makes the cells of the term that the step leaves
@@ -62,8 +84,13 @@ pub record StepLaws : Type 0 where
   -- for every answer that the register may give to the rule there is a step with it
   pub answered : {m n : Running} {e : Effect} (d : Reduces m e n) (a : Answer) → Fits (step_rule d) a → Answered d a
   -- so the rule that the finder answers, at its cell, makes a step, with the answer that the register gives to what it asks
-  pub found : (cs : List TermCell) (m : Running) (rule : Rule) (at : ℕ) (a : Answer) → Means cs m → Closed m → answer cs ≡ Ok (Some (rule, at)) → Fits rule a
-      → (e : Effect) × (n : Running) × (d : Reduces m e n) × (step_rule d ≡ rule) × (step_cell d ≡ at) × Asks cs rule at e × (answer_of e ≡ a) × (unclaimed (next_cells cs rule at a) ≡ running_cells n)
+  pub found : (cs : List TermCell) (rule : Rule) (at : ℕ) (a : Answer) → MakesStep cs rule at a
+  -- An answer to a rule that is answered nothing is disregarded. To another rule, whether it fits or
+  -- not, its cell stands for the redex.
+  pub disregarded : (cs : List TermCell) (rule : Rule) (at : ℕ) (a b : Answer)
+      → is_answered rule ≡ false → next_cells cs rule at a ≡ next_cells cs rule at b
+  pub stands : (cs : List TermCell) (rule : Rule) (at : ℕ) (a : Answer) → is_answered rule ≡ true
+      → next_cells cs rule at a ≡ take at cs ++ (answer_cell a ∷ after 1 (drop (at + 2) cs))
   -- claims change nothing but claims
   pub unclaims : (cs : List TermCell) (rule : Rule) (at : ℕ) (a : Answer) → unclaimed (next_cells cs rule at a) ≡ next_cells (unclaimed cs) rule at a
   -- how many cells the next term has does not depend on the answer

@@ -1,5 +1,5 @@
 -- Cells written into a table.
-use Rattle.std.specs.Prelude.{◌≡◌, ℕ, ◌+◌, ◌≤◌, true, false, cond, ◌&&◌, List, ◌++◌, length, take, drop, Some, None, Option, nat_le}
+use Rattle.std.specs.Prelude.{ℕ, ◌+◌, ◌-◌, true, false, cond, ◌&&◌, List, ◌++◌, length, take, drop, Some, None, Option, nat_le}
 use Rattle.calculus.specs.declared.cells.TermCell.{TermCell}
 use Rattle.stepper.specs.declared.writing.Answer.{Answer}
 use Rattle.stepper.specs.declared.writing.Answer.TheVariants.{Nothing, Handle, Outcome}
@@ -19,17 +19,9 @@ answer_cell (Outcome false) = running_cell 48 0
 abbrev pub put_count : ℕ → List TermCell → Option ℕ
 put_count len cs = cond (nat_le (len + length cs) 1024) (Some (len + length cs)) None
 
--- a table with cells written from `at` on
-abbrev pub overwritten : List TermCell → ℕ → List TermCell → List TermCell
-overwritten table at cs = take at table ++ (cs ++ drop (at + length cs) table)
-
--- the table with the cells put behind the first `len`; one that is too short, or that would hold too many, stays
-abbrev pub put_cells : List TermCell → ℕ → List TermCell → List TermCell
-put_cells table len cs = cond (nat_le (len + length cs) 1024) (cond (nat_le (len + length cs) (length table)) (overwritten table len cs) table) table
-
--- cells that a running term may have are put behind the first `len` of a table with room for them
-abbrev pub IsPut : List TermCell → List TermCell → ℕ → List TermCell → Type 0
-IsPut old new len cs = len + length cs ≤ 1024 → len + length cs ≤ length old → new ≡ overwritten old len cs
+-- a table with cells written over it from `at` on, as far as it goes
+abbrev pub overlaid : List TermCell → ℕ → List TermCell → List TermCell
+overlaid table at cs = take at table ++ (take (length table - at) cs ++ drop (at + length cs) table)
 
 -- how many cells there are, if a running term may have so many
 abbrev pub counted : List TermCell → Option ℕ

@@ -1,10 +1,11 @@
 //! Writes the next term: what a rule leaves, in place of the cells that it applies to.
 
 ghost use Rattle.std.specs.Prelude.{◌≡◌, ◌+◌, ◌*◌, ◌^◌, ◌<◌, ◌≤◌, [], ◌∷◌, length, take, drop, IfSome};
+ghost use Rattle.stepper.specs.Laws.{MakesStep};
 ghost use Rattle.stepper.specs.Next.{trees, left, next_cells};
 ghost use Rattle.stepper.specs.Parts.{taken, after};
 ghost use Rattle.stepper.specs.Substitution.{values_of, substitute_cell};
-ghost use Rattle.stepper.specs.Writing.{running_cell, answer_cell, put_cells, IsPut, counted, fronted};
+ghost use Rattle.stepper.specs.Writing.{running_cell, answer_cell, overlaid, counted, fronted};
 
 use calculus::{MOST_RUNNING_CELLS, TermCell};
 use finder::Rule;
@@ -55,8 +56,19 @@ fn split_tree(cells: &[TermCell]) -> (&[TermCell], &[TermCell])
     cells.split_at(len)
 }
 
-// Cells that are put at the front of a table, one behind the other: they are counted, and written as far as the table has room for them.
-// There are never more than a running term may have. An empty table has cells only counted.
+// Writes cells over a table from a place on, as far as the table goes.
+fn overlay(table: &mut [TermCell], at: usize, cells: &[TermCell])
+    ensures { table.new ≡ overlaid table.old at cells.now }
+{
+    if at < table.len() {
+        let len = cells.len().min(table.len() - at);
+        table[at..at + len].copy_from_slice(&cells[..len]);
+    }
+}
+
+// Cells that are put at the front of a table, one behind the other: they are counted, and written as
+// far as the table goes. There are never more than a running term may have. An empty table has cells
+// only counted.
 #[derive(Drop)]
 struct Front<'a> {
     table: &'a mut [TermCell],
@@ -67,20 +79,27 @@ struct Front<'a> {
 impl Front<'_> {
     ghost use Rattle.stepper.specs.Front.{Puts, PutsTrees};
 
-    // Puts cells behind those that are there; nothing where a running term may not have so many.
-    fn put(&mut self, cells: &[TermCell]) -> Option<()>
-        ensures put { Puts result self.old self.new cells.now }
-        ensures table { self.new.table.now ≡ put_cells self.old.table.now self.old.len cells.now }
+    // Puts a cell behind those that are there; nothing where a running term may not have so many.
+    fn put_one(&mut self, cell: TermCell) -> Option<()>
+        ensures { Puts result self.old self.new (cell ∷ []) }
     {
-        if cells.len() > MOST_RUNNING_CELLS - self.len {
+        if self.len >= MOST_RUNNING_CELLS {
             return None;
         }
-        let end = self.len + cells.len();
-        if end <= self.table.len() {
-            self.table[self.len..end].copy_from_slice(cells);
-        }
-        self.len = end;
+        overlay(self.table, self.len, &[cell]);
+        self.len += 1;
         Some(())
+    }
+
+    // Puts cells behind those that are there; where a running term may not have so many, only the
+    // first of them, and nothing is answered.
+    fn put(&mut self, cells: &[TermCell]) -> Option<()>
+        ensures { Puts result self.old self.new cells.now }
+    {
+        let few = cells.len().min(MOST_RUNNING_CELLS - self.len);
+        overlay(self.table, self.len, &cells[..few]);
+        self.len += few;
+        (few == cells.len()).then_some(())
     }
 
     // Puts what stands for a cell under `depth` binders, around which are those of the values: itself, a value, or the variable that
@@ -90,11 +109,11 @@ impl Front<'_> {
     {
         let index = cell.argument as usize;
         if cell.op != 'v' || index < depth {
-            return self.put(&[cell]);
+            return self.put_one(cell);
         }
         match values.get(index - depth) {
             Some(value) => self.put(value),
-            None => self.put(&[running('v', cell.argument - values.len() as u16)]),
+            None => self.put_one(running('v', cell.argument - values.len() as u16)),
         }
     }
 
@@ -163,7 +182,7 @@ impl Front<'_> {
                 Some(rest)
             }
             Rule::Prepare | Rule::Read => {
-                self.put(&[TermCell::from(answer)])?;
+                self.put_one(TermCell::from(answer))?;
                 Some(rest)
             }
             Rule::Gates => {
@@ -186,8 +205,9 @@ fn split_redex(cells: &[TermCell], at: usize) -> (&[TermCell], &[TermCell])
     }
 }
 
-/// Counts the cells of the next term, which the rule makes at a cell with the register's answer, and writes it to the front of a
-/// table that has room for it; of any other table the cells may be overwritten.
+/// Counts the cells of the next term, which the rule makes at a cell with the register's answer, and
+/// writes them over the table from its front, as far as it goes. Where a running term may not have so
+/// many, nothing is answered, and as many as it may have are written.
 pub fn put_next(
     cells: &[TermCell],
     rule: Rule,
@@ -196,7 +216,7 @@ pub fn put_next(
     table: &mut [TermCell],
 ) -> Option<usize>
     ensures answer { result ≡ counted (next_cells cells.now rule at answer) }
-    ensures table { IsPut table.old table.new 0 (next_cells cells.now rule at answer) }
+    ensures table { table.new ≡ overlaid table.old 0 (take 1024 (next_cells cells.now rule at answer)) }
 {
     let (before, trees) = split_redex(cells, at);
     let mut front = Front { table, len: 0 };
@@ -206,8 +226,14 @@ pub fn put_next(
     Some(front.len)
 }
 
-/// Counts the cells of the next term, and writes it to the front of the table if that is long enough; nothing where a running term
-/// may not have so many cells, and then the table stays.
+/// Counts the cells of the next term, and writes it to the front of the table if that is long enough;
+/// nothing where a running term may not have so many cells, and then the table stays.
+///
+/// The next term is that of a step where the cells mean a term in which no variable is free, the rule
+/// at the cell is the one found, and the answer fits the rule. A value is put under binders as it
+/// stands, so a variable that is free in it may come to be bound there, where a step raises it. An
+/// answer to a rule that asks for none is disregarded; to another rule its cell stands for the redex,
+/// whichever it is.
 pub fn next(
     cells: &[TermCell],
     rule: Rule,
@@ -217,6 +243,7 @@ pub fn next(
 ) -> Option<usize>
     ensures answer { result ≡ counted (next_cells cells.now rule at answer) }
     ensures table { table.new ≡ fronted (next_cells cells.now rule at answer) table.old }
+    ensures step { MakesStep cells.now rule at answer }
 {
     let len = put_next(cells, rule, at, answer, &mut [])?;
     if len <= table.len() {

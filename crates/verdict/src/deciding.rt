@@ -1,4 +1,5 @@
-//! What the verdict decides. Each function stands for a theorem: its contract is the theorem's statement.
+//! What the verdict decides. Each function stands for a theorem: its contract is the theorem's
+//! statement.
 
 ghost use Rattle.verdict.specs.Judging.{AcceptanceIsDerivability, AcceptanceIsDerivabilityBelow};
 ghost use Rattle.verdict.specs.Sheet.{FirstRowAnswers};
@@ -6,37 +7,27 @@ ghost use Rattle.verdict.specs.Uses.{UsesAreFree};
 ghost use Rattle.verdict.specs.Worked.{WorkedRows};
 
 /// Accepted are just the terms that have a derivation with their claims and nest at most 32 binders.
-pub fn acceptance_is_derivability() -> u8
+pub fn acceptance_is_derivability()
     ensures { AcceptanceIsDerivability }
-{
-    0
-}
+{}
 
 /// The same for a term below binders, in the context of their types.
-pub fn acceptance_is_derivability_below() -> u8
+pub fn acceptance_is_derivability_below()
     ensures { AcceptanceIsDerivabilityBelow }
-{
-    0
-}
+{}
 
 /// The verdict on a term is the first row of the sheet that holds for it: acceptance where none
 /// holds, and else the refusal by one, at its cell, before which none does.
-pub fn the_first_row_answers() -> u8
+pub fn the_first_row_answers()
     ensures { FirstRowAnswers }
-{
-    0
-}
+{}
 
 /// A term uses just its free variables.
-pub fn uses_are_free() -> u8
+pub fn uses_are_free()
     ensures { UsesAreFree }
-{
-    0
-}
+{}
 
 /// Worked terms and types get the answers that they should.
-pub fn worked_terms_are_judged() -> u8
+pub fn worked_terms_are_judged()
     ensures { WorkedRows }
-{
-    0
-}
+{}
