@@ -8,3 +8,4 @@ pub mod Sample
 pub mod Sound
 pub mod Steps
 pub mod Wants
+pub mod Unsound

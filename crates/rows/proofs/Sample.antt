@@ -1,4 +1,4 @@
--- The sample row, and two places that are not sound.
+-- The sample row.
 use Rattle.std.proofs.Common.{◌≡◌, ℕ, ◌≤◌, Bool, true, false, List, [], ◌∷◌, length, set, Some, sym, refl, ap, subst, inl, inr, ⊎_elim, arith}
 use Rattle.calculus.specs.declared.gates.Gate.{Gate}
 use Rattle.calculus.specs.Types.{bit, sub_bit, sub_qbit, sub_use, sub_arrow}
@@ -10,7 +10,6 @@ use Rattle.calculus.specs.Reduction.{Value, value_var, value_const, silent, prep
 use Rattle.calculus.specs.Names.{Names}
 use Rattle.calculus.proofs.Determinism.{rests}
 use Rattle.calculus.proofs.Requests.{one}
-use Rattle.calculus.proofs.Samples.{judged}
 use Rattle.registers.specs.declared.fault.RegisterReason.{RegisterReason}
 use Rattle.registers.specs.declared.fault.RegisterReason.TheVariants.{NoPulses, Full, GateNotMade, WrongCount, NotLive, GivenTwice}
 use Rattle.registers.specs.Meaning.{none_live}
@@ -150,6 +149,4 @@ sample_row =
       its_term = refl;
       is_new = is_new;
       row = row_next first (row_next (second k) (row_next (third l) (row_next (collects (λ x. collect_taken x.1)) row_end)));
-      a_qubit_left = λ s. s.0 0 refl;
-      no_type = λ s. judged.one_twice _ s.1;
     }

@@ -10,3 +10,4 @@ pub mod Sound
 pub mod Bounds
 pub mod Making
 pub mod Sample
+pub mod Unsound

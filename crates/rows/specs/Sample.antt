@@ -1,13 +1,11 @@
--- One row in full: (fun x.0)(new 1) is loaded, prepares a qubit, drops it, and its value is collected. And two places that are not sound.
+-- One row in full: (fun x.0)(new 1) is loaded, prepares a qubit, drops it, and its value is collected.
 use Rattle.std.specs.Prelude.{◌≡◌, ℕ, false, true, Bool, List, [], ◌∷◌, Some, None, Option, slice_set}
-use Rattle.calculus.specs.Types.{Ty, bit, qbit, arrow, tensor}
+use Rattle.calculus.specs.Types.{Ty, bit, qbit, arrow}
 use Rattle.calculus.specs.Terms.{bit_of, new, held, Term, var, const, lam, app, Running}
-use Rattle.calculus.specs.Samples.{controlled}
 use Rattle.registers.specs.Meaning.{Meaning, Changes, none_live}
 use Rattle.rows.specs.Members.{Program, load, step, collect}
 use Rattle.rows.specs.Places.{Place, New}
 use Rattle.rows.specs.Rows.{Row}
-use Rattle.rows.specs.Sound.{Sound}
 
 -- a register of a bit for each handle, that gates leave alone
 abbrev pub bits : Changes (List Bool)
@@ -45,6 +43,3 @@ pub record SampleRow : Type 0 where
   pub its_term : program.term ≡ dropping
   pub is_new : New bits start
   pub row : Row bits start (load program ∷ step 1024 ∷ step 1024 ∷ collect 1 1 ∷ []) sample_places
-  -- Sound is not said of every place.
-  pub a_qubit_left : Sound (place_with None one_live 1 none_live) → ⊥
-  pub no_type : Sound (place_with (Some (controlled (var tt (held 0)) (var tt (held 0)), tensor qbit qbit)) one_live 1 none_live) → ⊥

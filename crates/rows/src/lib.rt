@@ -6,46 +6,37 @@ ghost use Rattle.rows.specs.Sound.{EveryPlaceIsSound};
 ghost use Rattle.rows.specs.Bounds.{EveryPlaceIsBounded};
 ghost use Rattle.rows.specs.Making.{EveryRowIsMade, EveryAnswerIsServed, StepsAreExact};
 ghost use Rattle.rows.specs.Sample.{SampleRow};
+ghost use Rattle.rows.specs.Unsound.{UnsoundPlaces};
 
 /// From a new controller, whatever the row, every place is sound: the live qubits are exactly those that the running term names,
 /// the term has its loaded type, and a step of what is no value is refused for want of cells, of a pulse or of room alone.
-pub fn every_place_is_sound<Content>() -> u8
+pub fn every_place_is_sound<Content>()
     ensures { EveryPlaceIsSound Content }
-{
-    0
-}
+{}
 
 /// At every place, cells, handles, gates and live qubits are within their limits.
-pub fn every_place_is_bounded<Content>() -> u8
+pub fn every_place_is_bounded<Content>()
     ensures { EveryPlaceIsBounded Content }
-{
-    0
-}
+{}
 
 /// Every list of members is a row from a new controller.
-pub fn every_row_is_made<Content>() -> u8
+pub fn every_row_is_made<Content>()
     ensures { EveryRowIsMade Content }
-{
-    0
-}
+{}
 
 /// A step that is not refused goes on with every answer that the register may give.
-pub fn every_answer_is_served<Content>() -> u8
+pub fn every_answer_is_served<Content>()
     ensures { EveryAnswerIsServed Content }
-{
-    0
-}
+{}
 
 /// Nothing of a step is free but the register's answer.
-pub fn steps_are_exact<Content>() -> u8
+pub fn steps_are_exact<Content>()
     ensures { StepsAreExact Content }
-{
-    0
-}
+{}
 
-/// A row of four members goes through the five places that it should, and some places are not sound.
-pub fn sample_row_is_made() -> u8
-    ensures { SampleRow }
-{
-    0
-}
+/// A row of four members goes through the five places that it should, and some places are not sound: each claim is missed by
+/// one at which the others hold.
+pub fn sample_row_is_made()
+    ensures row { SampleRow }
+    ensures unsound { UnsoundPlaces }
+{}
