@@ -1,10 +1,10 @@
 -- The content of a level: a bit for each handle, and where the search for the next handle begins.
-use Rattle.std.specs.Prelude.{ℕ, ◌+◌, Bool, true, false, cond, not, ◌&&◌, List, replicate, slice_index, slice_index_or, slice_set}
+use Rattle.std.specs.Prelude.{◌≡◌, ℕ, ◌+◌, Bool, true, false, cond, not, ◌&&◌, List, replicate, slice_index, slice_index_or, slice_set}
 use Rattle.calculus.specs.declared.gates.Gate.{Gate}
 use Rattle.calculus.specs.declared.gates.Gate.TheVariants.{H, X, Z, S, T, Cnot, Swap, Toffoli}
 use Rattle.registers.specs.declared.level.Level.{Level}
 use Rattle.registers.specs.Meaning.{Meaning, Changes}
-use Rattle.registers.specs.Handles.{shown}
+use Rattle.registers.specs.Handles.{places, shown, unused}
 
 abbrev pub zeros : List Bool
 zeros = replicate 32 false
@@ -54,7 +54,21 @@ level_changes = record {
 }
 
 abbrev pub level_bits : Level → Bits
-level_bits s = record { bits = s.bits; next = s.handles.next }
+level_bits s = record { bits = places s.bits; next = s.handles.next }
+
+-- the bits of a level become others, and nothing else of it changes
+pub record BitsBecome (before after : Level) (bits : List Bool) : Type 0 where
+  pub held : (level_bits after).bits ≡ bits
+  pub handles : after.handles ≡ before.handles
+  pub pulses : after.pulses ≡ before.pulses
+
+-- what a read of a handle answers
+abbrev pub level_outcome : Level → ℕ → Bool
+level_outcome s = bit_of (level_bits s).bits
 
 abbrev pub level_meaning : Level → Meaning Bits
 level_meaning s = shown s.handles level_makes s.pulses (level_bits s)
+
+-- a level as made: every bit is 0
+abbrev pub new_level : ℕ → ℕ → Meaning Bits
+new_level capacity pulses = unused capacity level_makes pulses (record { bits = zeros; next = 0 })

@@ -3,6 +3,7 @@ pub mod Answers
 pub mod Depth
 pub mod Sheet
 pub mod Telling
+pub mod Deeds
 pub mod Room
 pub mod Handles
 pub mod Next

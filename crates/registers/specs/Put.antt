@@ -1,40 +1,46 @@
--- A level that only prepares, flips and reads: which bit each handle holds, by what was done.
-use Rattle.std.specs.Prelude.{◌≡◌, ℕ, ◌<◌, Bool, false, cond, not, List, [], ◌∷◌, ◌==◌}
-use Rattle.calculus.specs.declared.gates.Gate.TheVariants.{X}
+-- Which bit each handle of a level holds after some accepted calls, by which it held before, and that a read answers it.
+use Rattle.std.specs.Prelude.{◌≡◌, ℕ, Bool, true, false, cond, not, ◌&&◌, List, [], ◌∷◌, ◌==◌, slice_index}
+use Rattle.calculus.specs.declared.gates.Gate.{Gate}
+use Rattle.calculus.specs.declared.gates.Gate.TheVariants.{H, X, Z, S, T, Cnot, Swap, Toffoli}
 use Rattle.registers.specs.declared.level.Level.{Level}
-use Rattle.registers.specs.Meaning.{Meaning, after_prepare, after_gate, after_read}
-use Rattle.registers.specs.Handles.{unused}
-use Rattle.registers.specs.Bits.{Bits, zeros, bit_of, level_makes, level_changes, level_meaning}
+use Rattle.registers.specs.declared.register.Register.{Ghosts}
+use Rattle.registers.specs.Deeds.{Deed, prepares, applies, reads, lets_go, clears, Does, DoesAll}
+use Rattle.registers.specs.Bits.{level_meaning, new_level}
 
--- an accepted call, with the handle: what it was prepared at, and what a read answered
-pub data Deed : Type 0 where
-  prepares : ℕ → Bool → Deed
-  flips : ℕ → Deed
-  reads : ℕ → Bool → Deed
+-- the bits by their handles, where one is put in place of its own
+abbrev pub with_bit : (ℕ → Bool) → ℕ → Bool → ℕ → Bool
+with_bit held h bit k = cond (h == k) bit (held k)
 
-abbrev pub handle_of : Deed → ℕ
-handle_of (prepares h bit) = h
-handle_of (flips h) = h
-handle_of (reads h outcome) = h
+-- where one is flipped if a test holds
+abbrev pub turned : (ℕ → Bool) → Bool → ℕ → ℕ → Bool
+turned held test h = with_bit held h (cond test (not (held h)) (held h))
 
-abbrev pub AllBelow32 : List Deed → Type 0
-AllBelow32 [] = Unit {0}
-AllBelow32 (d ∷ ds) = (handle_of d < 32) × AllBelow32 ds
+-- a gate, of the bits of its operands; a level makes four
+abbrev pub held_after_gate : (ℕ → Bool) → Gate → List ℕ → ℕ → Bool
+held_after_gate held H on = held
+held_after_gate held X on = turned held true (slice_index on 0)
+held_after_gate held Z on = held
+held_after_gate held S on = held
+held_after_gate held T on = held
+held_after_gate held Cnot on = turned held (held (slice_index on 0)) (slice_index on 1)
+held_after_gate held Swap on = with_bit (with_bit held (slice_index on 0) (held (slice_index on 1))) (slice_index on 1) (held (slice_index on 0))
+held_after_gate held Toffoli on = turned held (held (slice_index on 0) && held (slice_index on 1)) (slice_index on 2)
 
--- a fresh level after some deeds, of which the last stands first
-abbrev pub after_deeds : ℕ → ℕ → List Deed → Meaning Bits
-after_deeds capacity pulses [] = unused capacity level_makes pulses (record { bits = zeros; next = 0 })
-after_deeds capacity pulses (prepares h bit ∷ ds) = after_prepare level_changes (after_deeds capacity pulses ds) h bit
-after_deeds capacity pulses (flips h ∷ ds) = after_gate level_changes (after_deeds capacity pulses ds) X (h ∷ [])
-after_deeds capacity pulses (reads h outcome ∷ ds) = after_read level_changes (after_deeds capacity pulses ds) h outcome
+-- the bits after an accepted call
+abbrev pub held_after : (ℕ → Bool) → Deed → ℕ → Bool
+held_after held (prepares h bit) = with_bit held h bit
+held_after held (applies gate on) = held_after_gate held gate on
+held_after held (reads h outcome) = held
+held_after held (lets_go h) = with_bit held h false
+held_after held clears = λ k. false
 
--- the bit of a handle: as last prepared, turned over by each flip since
-abbrev pub put : List Deed → ℕ → Bool
-put [] k = false
-put (prepares h bit ∷ ds) k = cond (h == k) bit (put ds k)
-put (flips h ∷ ds) k = cond (h == k) (not (put ds k)) (put ds k)
-put (reads h outcome ∷ ds) k = put ds k
+-- and after several, of which the first stands first
+abbrev pub put : (ℕ → Bool) → List Deed → ℕ → Bool
+put held [] = held
+put held (d ∷ ds) = put (held_after held d) ds
 
--- what a read of any handle then answers
-abbrev pub LevelReadsWhatWasPut : Type 0
-LevelReadsWhatWasPut = (capacity pulses : ℕ) (ds : List Deed) → AllBelow32 ds → (s : Level) → level_meaning s ≡ after_deeds capacity pulses ds → (k : ℕ) → bit_of s.bits k ≡ put ds k
+-- Of every level: what a read of each handle would answer is what was put; so is what a read does answer; and a new level holds 0.
+pub record LevelReadsWhatWasPut (kind : Ghosts Level) : Type 0 where
+  pub held : (r s : Level) (ds : List Deed) → DoesAll kind r ds s → (k : ℕ) → kind.outcome s k ≡ put (kind.outcome r) ds k
+  pub answered : (r s t : Level) (ds : List Deed) (h : ℕ) (bit : Bool) → DoesAll kind r ds s → Does kind s (reads h bit) t → bit ≡ put (kind.outcome r) ds h
+  pub new : (s : Level) (capacity pulses : ℕ) → level_meaning s ≡ new_level capacity pulses → (k : ℕ) → kind.outcome s k ≡ false

@@ -1,10 +1,11 @@
 //! A register of classical bits.
 
-ghost use Rattle.std.specs.Prelude.{◌≡◌};
-ghost use Rattle.registers.specs.Handles.{next_handle, unused};
+ghost use Rattle.std.specs.Prelude.{◌≡◌, slice_set};
+ghost use Rattle.registers.specs.Handles.{next_handle};
 ghost use Rattle.registers.specs.Depth.{nothing_passed_up};
 ghost use Rattle.registers.specs.Free.{handles_owed};
-ghost use Rattle.registers.specs.Bits.{Bits, zeros, bit_of, flipped, exchanged, level_makes, bits_gated, level_changes, level_bits, level_meaning};
+ghost use Rattle.registers.specs.Bits.{Bits, BitsBecome, flipped, exchanged, bits_gated};
+ghost use Rattle.registers.specs.Bits.{level_makes, level_changes, level_bits, level_outcome, level_meaning, new_level};
 
 use crate::fault::RegisterFault;
 use crate::handles::Handles;
@@ -23,13 +24,34 @@ pub struct Level {
 impl Level {
     /// No live qubit, every bit 0; a capacity above 32 is 32.
     pub fn new(capacity: usize, pulses: u64) -> Level
-        ensures { level_meaning result ≡ unused capacity level_makes pulses (record { bits = zeros; next = 0 }) }
+        ensures { level_meaning result ≡ new_level capacity pulses }
     {
         Level {
             handles: Handles::new(capacity),
             bits: [false; HANDLES],
             pulses,
         }
+    }
+
+    // What a read of a handle answers.
+    fn bit(&self, handle: u8) -> bool
+        ensures { result ≡ level_outcome self.now handle }
+    {
+        holds(&self.bits, handle)
+    }
+
+    // Puts the bit of a handle.
+    fn put_bit(&mut self, handle: u8, bit: bool)
+        ensures { BitsBecome self.old self.new (slice_set (level_bits self.old).bits handle bit) }
+    {
+        put(&mut self.bits, handle, bit);
+    }
+
+    // Applies a gate to the bits of its operands.
+    fn apply_gate(&mut self, gate: Gate, on: &[u8])
+        ensures { BitsBecome self.old self.new (bits_gated (level_bits self.old).bits gate on.now) }
+    {
+        apply(&mut self.bits, gate, on);
     }
 }
 
@@ -73,7 +95,7 @@ impl Register for Level {
 
     ghost fresh = { λ s. next_handle s.handles };
 
-    ghost outcome = { λ s h. bit_of s.bits h };
+    ghost outcome = { level_outcome };
 
     ghost passed_up = { λ _. nothing_passed_up };
 
@@ -101,7 +123,7 @@ impl Register for Level {
 
     fn prepare(&mut self, bit: bool) -> Result<u8, RegisterFault> {
         let handle = self.handles.prepare(self.pulses)?;
-        put(&mut self.bits, handle, bit);
+        self.put_bit(handle, bit);
         self.pulses -= 1;
         Ok(handle)
     }
@@ -109,7 +131,7 @@ impl Register for Level {
     fn gate(&mut self, gate: Gate, on: &[u8]) -> Result<(), RegisterFault> {
         self.handles
             .allow_gate(self.pulses, self.makes(gate), gate, on)?;
-        apply(&mut self.bits, gate, on);
+        self.apply_gate(gate, on);
         self.pulses -= 1;
         Ok(())
     }
@@ -117,12 +139,12 @@ impl Register for Level {
     fn read(&mut self, handle: u8) -> Result<bool, RegisterFault> {
         self.handles.allow_read(self.pulses, handle)?;
         self.pulses -= 1;
-        Ok(holds(&self.bits, handle))
+        Ok(self.bit(handle))
     }
 
     fn let_go(&mut self, handle: u8) -> Result<(), RegisterFault> {
         self.handles.let_go(handle)?;
-        put(&mut self.bits, handle, false);
+        self.put_bit(handle, false);
         Ok(())
     }
 

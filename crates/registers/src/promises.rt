@@ -1,4 +1,4 @@
-//! What holds of every register, of every cap, of the handles of a tape and a level, and of a fresh level: each function does nothing, and its contract is a promise.
+//! What holds of every register, of every cap, of the handles of a tape and a level, and of the bits of a level: each function does nothing, and its contract is a promise.
 
 ghost use Rattle.registers.specs.Depth.{DepthsAreCounted};
 ghost use Rattle.registers.specs.Layers.{CapsMerge};
@@ -30,7 +30,7 @@ pub fn depths_are_counted() -> u8
 
 /// The live count stays within the capacity, and is within it after a clear.
 pub fn room_is_kept<R: Register>() -> u8
-    ensures { RoomIsKept R.Register.changes }
+    ensures { RoomIsKept R.Register }
 {
     0
 }
@@ -49,9 +49,9 @@ pub fn next_is_found() -> u8
     0
 }
 
-/// A fresh level that only prepares, flips and reads answers, for each handle, the bit it was last prepared at, turned over by each flip since.
+/// Whatever a level held and whichever calls it accepts, it holds and answers for each handle the bit that they put there.
 pub fn level_reads_what_was_put() -> u8
-    ensures { LevelReadsWhatWasPut }
+    ensures { LevelReadsWhatWasPut ⟦<Level as Register>⟧ }
 {
     0
 }
