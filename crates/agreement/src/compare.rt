@@ -7,7 +7,7 @@ use calculus::TermCell;
 use checker::check;
 use drafts::Draft;
 use finder::{Rule, find};
-use listing::{MOST_BYTES, listing, play};
+use listing::{MOST_BYTES, listing, play_text};
 use second::{SecondRule, second_check, second_find, second_shot};
 use std::alloc::{AllocError, Global};
 use std::io;
@@ -29,10 +29,10 @@ pub fn shown(heap: Global, text: &[u8]) -> Result<String, AllocError> {
 pub fn compare_shots(tally: &mut Tally, text: &[u8]) -> io::Result<bool> {
     let heap = tally.heap();
     let text = seen(text);
-    let shot = play(heap, text)?;
-    let first = listing(heap, &shot)?;
+    let shot = play_text(text);
+    let first = listing(&shot);
     let second = second_shot(heap, text)?;
-    if tally.compare(first == second, Outcome::from(&shot))? {
+    if tally.compare(first.as_str() == second.as_str(), Outcome::from(&shot))? {
         return Ok(true);
     }
     let program = shown(heap, text)?;

@@ -1,6 +1,6 @@
 //! Listings of whole shots, byte for byte.
 
-use listing::{listing, play};
+use listing::{listing, play_text};
 use std::alloc::{AllocError, Global};
 use std::test::Fail;
 
@@ -47,8 +47,7 @@ fn listings(rt: HostRuntime) -> Result<(), Fail> {
     let heap = rt.alloc();
     for (text, want) in SHOTS {
         let bytes = stored(heap, *text)?;
-        let shot = play(heap, bytes.as_slice())?;
-        let got = listing(heap, &shot)?;
+        let got = listing(&play_text(bytes.as_slice()));
         assert_eq!(rt; got.as_str(), *want, "{}", *text);
     }
     Ok(())

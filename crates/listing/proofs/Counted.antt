@@ -1,11 +1,12 @@
 -- Counted elements, one more, and entries up to the first that is empty.
-use Rattle.std.proofs.Common.{Bool, true, false, refl, ◌≡◌, ℕ, ◌+◌, ◌<◌, List, [], ◌∷◌, ◌++◌, length, take, get_or, arith}
+use Rattle.std.proofs.Common.{Bool, true, false, refl, ◌≡◌, ℕ, ◌+◌, ◌<◌, List, [], ◌∷◌, ◌++◌, length, take, get_or, ap, ◌∙◌, arith}
 use Rattle.std.proofs.lemmas.Grind.{common_steps}
-use Rattle.std.proofs.lemmas.List.{take_more}
+use Rattle.std.proofs.lemmas.List.{take_more, length-take-le}
+use Rattle.std.proofs.lemmas.List.Sums.{prefix_len-le-length}
 use Rattle.std.specs.List.{enumerate_from, prefix_len}
 use Rattle.registers.specs.declared.journal.Entry.{Entry}
 use Rattle.registers.specs.declared.journal.Entry.TheVariants.{Empty, Prepare, Gate, Read}
-use Rattle.listing.specs.Playing.{before_empty}
+use Rattle.listing.specs.Listing.{before_empty}
 
 module _ {X : Type 0} where
   counted_append : (n : ℕ) (xs : List X) (y : X) → enumerate_from n (xs ++ y ∷ []) ≡ enumerate_from n xs ++ (n + length xs, y) ∷ []
@@ -31,3 +32,9 @@ before_empty_is (Empty ∷ es) = refl
 before_empty_is (Prepare handle bit ∷ es) = grind (arith, common_steps, before_empty_is es)
 before_empty_is (Gate gate on ∷ es) = grind (arith, common_steps, before_empty_is es)
 before_empty_is (Read handle outcome ∷ es) = grind (arith, common_steps, before_empty_is es)
+
+-- as many elements as the front has are the front
+pub take_before : (es : List Entry) → take (length (take (prefix_len made es) es)) es ≡ before_empty es
+take_before es =
+    let n = prefix_len made es in
+    ap (λ k. take k es) (length-take-le n es (prefix_len-le-length made es)) ∙ before_empty_is es

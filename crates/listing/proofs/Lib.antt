@@ -2,5 +2,7 @@ mod Counted
 mod Cutting
 mod Listed
 mod Plain
+mod Journal
 mod Played
+pub mod Room
 mod Texts

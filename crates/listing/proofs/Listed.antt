@@ -1,5 +1,5 @@
 -- What a shot comes to is listed as the listing of its text says.
-use Rattle.std.proofs.Common.{◌≡◌, ℕ, Bool, true, false, ◌∷◌, [], ◌++◌, cond, map, min, List, length, take, drop, replicate, Some, None, Ok, Err, Option, Result, refl, sym, ap, ap₂, ◌∙◌, subst, arith}
+use Rattle.std.proofs.Common.{◌≡◌, ℕ, Bool, true, false, ◌∷◌, [], ◌++◌, cond, map, min, List, get_or, length, take, drop, replicate, Some, None, Ok, Err, Option, Result, refl, sym, ap, ap₂, ◌∙◌, subst, arith}
 use Rattle.std.proofs.lemmas.List.{take_all, take_at, length-replicate}
 use Rattle.calculus.specs.Cells.{blank, kind_cell}
 use Rattle.calculus.specs.declared.cells.TermCell.{TermCell}
@@ -28,14 +28,18 @@ use Rattle.player.specs.declared.turns.Done.TheVariants.{Loaded}
 use Rattle.player.specs.declared.turns.Turn.{Turn}
 use Rattle.player.specs.declared.turns.Turn.TheVariants.{Load, Step, Run, Collect, Abandon}
 use Rattle.player.specs.declared.turns.TurnFault.{TurnFault}
+use Rattle.player.specs.declared.turns.TurnFault.TheVariants.{NotAccepted, Refused as RefusedCall}
 use Rattle.player.specs.Stages.{Reply, Stage, stage, replied, as_run, as_collected, after_load}
 use Rattle.player.proofs.Settled.{row_settled}
-use Rattle.player.specs.Settled.{load_turn, run_turn, collect_turn, after_collect, turns_of}
+use Rattle.player.specs.Settled.{meant_stage, load_turn, run_start, run_turn, collect_turn, after_collect, turns_of}
 use Rattle.listing.specs.declared.shots.Shot.{Shot}
-use Rattle.listing.specs.declared.shots.Shot.TheVariants.{Refused, Ran}
-use Rattle.listing.specs.Listing.{run_lines, listing_lines}
+use Rattle.listing.specs.Listing.{before_empty, run_lines, listing_lines}
 use Rattle.listing.specs.Listed.{value_cells, type_cells, run_listed, load_listed, check_listed, cells_listed, read_listed, text_listed}
-use Rattle.listing.specs.Playing.{alternating, before_empty, run_made, cells_collected, IsRun, IsMade, Tells, Loads, fresh_stage, text_read, CellsPlayed, ReadAndPlayed, TextPlayed}
+use Rattle.listing.proofs.Journal.{entries, turns_keep}
+use Rattle.listing.proofs.Played.{three}
+use Rattle.listing.specs.Replies.{run_report, Reports}
+use Rattle.listing.specs.declared.replies.RunReport.{RunReport}
+use Rattle.listing.specs.Playing.{alternating, reported, Loads, RowOfShot, fresh_stage, text_read, CellsPlayed, ReadAndPlayed, TextPlayed}
 
 -- a stage's tables and journal, by what its tape means
 pub record Ended (end : Stage Tape) (b : Stage (Meaning Reel)) : Type 0 where
@@ -58,110 +62,215 @@ counted h room kind_room n e = by _ _ _ e
     by false false false e = cc
 
 -- the lines of equal runs
-same_lines : {n m : ℕ} {p q : Stop} {ks ls : List TypeCell} {xs ys : List TermCell} {es fs : List Entry} → n ≡ m → p ≡ q → ks ≡ ls → xs ≡ ys → es ≡ fs → run_lines n p ks xs es ≡ run_lines m q ls ys fs
-same_lines {n = n} {m = m} {p = p} {q = q} {ks = ks} {ls = ls} {xs = xs} {ys = ys} {es = es} a b c d e =
-    ap (λ z. run_lines z p ks xs es) a ∙ ap (λ z. run_lines m z ks xs es) b ∙ ap (λ z. run_lines m q z xs es) c ∙ ap (λ z. run_lines m q ls z es) d ∙ ap (run_lines m q ls ys) e
+same_lines : (n : ℕ) (p : Stop) {ks ls : List TypeCell} {xs ys : List TermCell} {es fs : List Entry} → ks ≡ ls → xs ≡ ys → es ≡ fs → run_lines n p ks xs es ≡ run_lines n p ls ys fs
+same_lines n p {ks = ks} {ls = ls} {xs = xs} {ys = ys} {es = es} c d e =
+    ap (λ z. run_lines n p z xs es) c ∙ ap (λ z. run_lines n p ls z es) d ∙ ap (run_lines n p ls ys) e
+
+-- what the answers to a load, a run and a collect report
+abbrev pub report_from : Result ℕ Refusal → Result (ℕ × Stop) Refusal → Result (ℕ × ℕ) Refusal → Result RunReport TurnFault
+report_from (Err f) r c = Err (RefusedCall f)
+report_from (Ok n) (Err f) c = Err (RefusedCall f)
+report_from (Ok n) (Ok (steps, stop)) (Err f) = Ok (run_report steps stop 0 0)
+report_from (Ok n) (Ok (steps, stop)) (Ok (cells, kinds)) = Ok (run_report steps stop cells kinds)
+
+reported_so : (l : Result ℕ Refusal) (r : Result (ℕ × Stop) Refusal) (c : Result (ℕ × ℕ) Refusal) (t : Result RunReport TurnFault)
+    → Reports (Some (replied Loaded l)) (Some (replied as_run r)) (Some (replied as_collected c)) t → t ≡ report_from l r c
+reported_so (Err f) r c t e = e
+reported_so (Ok n) (Err f) c t e = e
+reported_so (Ok n) (Ok (steps, stop)) (Err f) t e = e
+reported_so (Ok n) (Ok (steps, stop)) (Ok (cells, kinds)) t e = e
+
+so_reported : (l : Result ℕ Refusal) (r : Result (ℕ × Stop) Refusal) (c : Result (ℕ × ℕ) Refusal)
+    → Reports (Some (replied Loaded l)) (Some (replied as_run r)) (Some (replied as_collected c)) (report_from l r c)
+so_reported (Err f) r c = refl
+so_reported (Ok n) (Err f) c = refl
+so_reported (Ok n) (Ok (steps, stop)) (Err f) = refl
+so_reported (Ok n) (Ok (steps, stop)) (Ok (cells, kinds)) = refl
 
 module _ (end : Stage Tape) where
   -- a run that was made, and what was collected of it
-  run_is_listed : (steps : ℕ) (stop : Stop) (last : Standing Reel) (c : Result (ℕ × ℕ) Refusal) (s : Shot) → collect_answer last.shot 1024 256 ≡ c
-      → Ended end (after_collect tape_changes tape_tells (on_tables last) c) → IsRun (steps, stop) (cells_collected (Some (replied as_collected c))) end s
-      → listing_lines s ≡ run_lines steps stop (type_cells last.shot c) (value_cells last.shot c) (before_empty last.register.content.entries)
-  run_is_listed steps stop last c (Refused number place) q e r = absurd r
-  run_is_listed steps stop last (Ok n) (Ran k why value kinds journal) q e r =
-      let count = counted last.shot 1024 256 n q in
-      let cells : take n.0 end.value ≡ last.shot.cells = ap₂ take (ap (λ (p : ℕ × ℕ). p.0) count) e.value ∙ take_at last.shot.cells _ (length last.shot.cells) refl in
-      let type : take n.1 end.kinds ≡ last.shot.kinds = ap₂ take (ap (λ (p : ℕ × ℕ). p.1) count) e.kinds ∙ take_at last.shot.kinds _ (length last.shot.kinds) refl in
-      same_lines r.0 r.1 (r.3 ∙ type) (r.2 ∙ cells) (r.4 ∙ ap before_empty e.entries)
-  run_is_listed steps stop last (Err f) (Ran k why value kinds journal) q e r = same_lines r.0 r.1 r.3 r.2 (r.4 ∙ ap before_empty e.entries)
+  run_is_listed : (n steps : ℕ) (stop : Stop) (last : Standing Reel) (c : Result (ℕ × ℕ) Refusal) → collect_answer last.shot 1024 256 ≡ c
+      → Ended end (after_collect tape_changes tape_tells (on_tables last) c)
+      → listing_lines (reported (report_from (Ok n) (Ok (steps, stop)) c) end) ≡ run_lines steps stop (type_cells last.shot c) (value_cells last.shot c) (before_empty last.register.content.entries)
+  run_is_listed n steps stop last (Ok k) q e =
+      let count = counted last.shot 1024 256 k q in
+      let cells : take k.0 end.value ≡ last.shot.cells = ap₂ take (ap (λ (p : ℕ × ℕ). p.0) count) e.value ∙ take_at last.shot.cells _ (length last.shot.cells) refl in
+      let type : take k.1 end.kinds ≡ last.shot.kinds = ap₂ take (ap (λ (p : ℕ × ℕ). p.1) count) e.kinds ∙ take_at last.shot.kinds _ (length last.shot.kinds) refl in
+      same_lines steps stop type cells (ap before_empty e.entries)
+  run_is_listed n steps stop last (Err f) q e = ap (run_lines steps stop [] []) (ap before_empty e.entries)
 
   -- a run after a load that was made
-  ran_is_listed : (n : ℕ) (x : Result (ℕ × Stop) Refusal × Standing Reel) (s : Shot)
+  ran_is_listed : (n : ℕ) (x : Result (ℕ × Stop) Refusal × Standing Reel)
       → Ended end (after_collect tape_changes tape_tells (on_tables x.1) (collect_answer x.1.shot 1024 256))
-      → IsMade (run_made (Some (Ok (Loaded n))) (Some (replied as_run x.0))) (cells_collected (Some (replied as_collected (collect_answer x.1.shot 1024 256)))) end s
-      → listing_lines s ≡ run_listed x
-  ran_is_listed n (Ok (steps, stop), last) s e m = run_is_listed steps stop last (collect_answer last.shot 1024 256) s refl e m
-  ran_is_listed n (Err f, last) s e m = ap listing_lines m
+      → listing_lines (reported (report_from (Ok n) x.0 (collect_answer x.1.shot 1024 256)) end) ≡ run_listed x
+  ran_is_listed n (Ok (steps, stop), last) e = run_is_listed n steps stop last (collect_answer last.shot 1024 256) refl e
+  ran_is_listed n (Err f, last) e = refl
 
+module _ (end : Stage Tape) where
   -- what is collected into new tables
-  collected : (last : Standing Reel) (w : List TermCell) (c d : Result (ℕ × ℕ) Refusal) (m : Result (ℕ × Stop) TurnFault) (s : Shot) → c ≡ d
+  collected : (last : Standing Reel) (w : List TermCell) (c d : Result (ℕ × ℕ) Refusal) → c ≡ d
       → Ended end (after_collect tape_changes tape_tells (stage last.shot last.register w (replicate 1024 blank) (replicate 256 (kind_cell 0))) c)
-      → IsMade m (cells_collected (Some (replied as_collected c))) end s
-      → Ended end (after_collect tape_changes tape_tells (on_tables last) d) × IsMade m (cells_collected (Some (replied as_collected d))) end s
-  collected last w c d m s q e i = (
-    beside d (subst (λ c. Ended end (after_collect tape_changes tape_tells (stage last.shot last.register w (replicate 1024 blank) (replicate 256 (kind_cell 0))) c)) q e),
-    subst (λ c. IsMade m (cells_collected (Some (replied as_collected c))) end s) q i,
-  )
+      → Ended end (after_collect tape_changes tape_tells (on_tables last) d)
+  collected last w c d q e =
+      beside d (subst (λ c. Ended end (after_collect tape_changes tape_tells (stage last.shot last.register w (replicate 1024 blank) (replicate 256 (kind_cell 0))) c)) q e)
     where
       beside : (c : Result (ℕ × ℕ) Refusal) → Ended end (after_collect tape_changes tape_tells (stage last.shot last.register w (replicate 1024 blank) (replicate 256 (kind_cell 0))) c)
           → Ended end (after_collect tape_changes tape_tells (on_tables last) c)
       beside (Ok n) e = record { value = e.value; kinds = e.kinds; entries = e.entries }
       beside (Err f) e = record { value = e.value; kinds = e.kinds; entries = e.entries }
 
-  -- where a shot begins, but for its load
-  abbrev begin : Held → Stage (Meaning Reel)
-  begin h = stage h (after_clear tape_changes (new_tape 8 (alternating 64) (replicate 64 Empty))) (replicate 1024 blank) (replicate 1024 blank) (replicate 256 (kind_cell 0))
+-- where a shot begins, but for its load
+abbrev begin : Held → Stage (Meaning Reel)
+begin h = stage h (after_clear tape_changes (new_tape 8 (alternating 64) (replicate 64 Empty))) (replicate 1024 blank) (replicate 1024 blank) (replicate 256 (kind_cell 0))
 
-  abbrev ran_from : Stage (Meaning Reel) → Reply × Stage (Meaning Reel)
-  ran_from a = run_turn tape_changes tape_tells 1000 1024 a
+abbrev ran_from : Stage (Meaning Reel) → Reply × Stage (Meaning Reel)
+ran_from a = run_turn tape_changes tape_tells 1000 1024 a
 
-  abbrev collected_from : Stage (Meaning Reel) → Reply × Stage (Meaning Reel)
-  collected_from a = collect_turn tape_changes tape_tells 1024 256 a
+abbrev collected_from : Stage (Meaning Reel) → Reply × Stage (Meaning Reel)
+collected_from a = collect_turn tape_changes tape_tells 1024 256 a
 
-  room : (n : ℕ) {X : Type 0} (x : X) → min n (length (replicate n x)) ≡ n
-  room n x = let l = length-replicate n x in omega arith
+room : (n : ℕ) {X : Type 0} (x : X) → min n (length (replicate n x)) ≡ n
+room n x = let l = length-replicate n x in omega arith
 
-  loaded_is_listed : (types : List TypeCell) (terms : List TermCell) (x : Result ℕ Refusal) (s : Shot)
-      → Ended end (collected_from (ran_from (after_load types terms (begin nothing_held) x)).1).1
-      → IsMade (run_made (Some (replied Loaded x)) (Some (ran_from (after_load types terms (begin nothing_held) x)).0))
-      (cells_collected (Some (collected_from (ran_from (after_load types terms (begin nothing_held) x)).1).0)) end s
-      → listing_lines s ≡ load_listed types terms x
-  loaded_is_listed types terms (Ok n) s e m =
+-- a shot whose load was answered so
+abbrev after_begin : List TypeCell → List TermCell → Result ℕ Refusal → Reply × Stage (Meaning Reel)
+after_begin types terms x = ran_from (after_load types terms (begin nothing_held) x)
+
+module _ (end : Stage Tape) where
+  loaded_is_listed : (types : List TypeCell) (terms : List TermCell) (x : Result ℕ Refusal) (t : Result RunReport TurnFault)
+      → Ended end (collected_from (after_begin types terms x).1).1
+      → Reports (Some (replied Loaded x)) (Some (after_begin types terms x).0) (Some (collected_from (after_begin types terms x).1).0) t
+      → listing_lines (reported t end) ≡ load_listed types terms x
+  loaded_is_listed types terms (Ok n) t e r =
       let from = λ (w : List TermCell). run_of tape_changes tape_tells 1000 (record { shot = program_held types terms; register = (begin nothing_held).register; work = w }) in
       let x : Result (ℕ × Stop) Refusal × Standing Reel = from (take 1024 (replicate 1024 blank)) in
       let all : take 1024 (replicate 1024 blank) ≡ replicate 1024 blank = take_all 1024 (replicate 1024 blank) (let l = length-replicate 1024 blank in omega arith) in
-      let both = collected x.1 (x.1.work ++ drop 1024 (replicate 1024 blank)) _ _ (run_made (Some (Ok (Loaded n))) (Some (replied as_run x.0))) s
-      (ap₂ (collect_answer x.1.shot) (room 1024 blank) (room 256 (kind_cell 0))) e m in
-      ran_is_listed n x s both.0 both.1 ∙ ap run_listed (ap from all)
-  loaded_is_listed types terms (Err f) s e m = ap listing_lines m
+      let rooms = ap₂ (collect_answer x.1.shot) (room 1024 blank) (room 256 (kind_cell 0)) in
+      let told = subst (λ c. Reports (Some (Ok (Loaded n))) (Some (replied as_run x.0)) (Some (replied as_collected c)) t) rooms r in
+      ap (λ t. listing_lines (reported t end)) (reported_so (Ok n) x.0 _ t told)
+      ∙ ran_is_listed end n x (collected end x.1 (x.1.work ++ drop 1024 (replicate 1024 blank)) _ _ rooms e)
+      ∙ ap run_listed (ap from all)
+  loaded_is_listed types terms (Err f) t e r = ap (λ t. listing_lines (reported t end)) r
 
-  checked_is_listed : (types : List TypeCell) (terms : List TermCell) (v : Verdict) (s : Shot)
+  checked_is_listed : (types : List TypeCell) (terms : List TermCell) (v : Verdict) (t : Result RunReport TurnFault)
       → Ended end (collected_from (ran_from (load_turn tape_changes tape_tells types terms (begin nothing_held) v).1).1).1
-      → IsMade (run_made (Some (load_turn tape_changes tape_tells types terms (begin nothing_held) v).0) (Some (ran_from (load_turn tape_changes tape_tells types terms (begin nothing_held) v).1).0))
-      (cells_collected (Some (collected_from (ran_from (load_turn tape_changes tape_tells types terms (begin nothing_held) v).1).1).0)) end s
-      → listing_lines s ≡ check_listed types terms v
-  checked_is_listed types terms (Ok u) s e m = loaded_is_listed types terms (load_answer tape_makes nothing_held terms) s e m
-  checked_is_listed types terms (Err f) s e m = ap listing_lines m
+      → Reports (Some (load_turn tape_changes tape_tells types terms (begin nothing_held) v).0)
+      (Some (ran_from (load_turn tape_changes tape_tells types terms (begin nothing_held) v).1).0)
+      (Some (collected_from (ran_from (load_turn tape_changes tape_tells types terms (begin nothing_held) v).1).1).0) t
+      → listing_lines (reported t end) ≡ check_listed types terms v
+  checked_is_listed types terms (Ok u) t e r = loaded_is_listed types terms (load_answer tape_makes nothing_held terms) t e r
+  checked_is_listed types terms (Err f) t e r = ap (λ t. listing_lines (reported t end)) r
 
 -- what the turns of a shot come to
 abbrev pub shot_turns : Turn → Meaning Reel → List Reply × Stage (Meaning Reel)
 shot_turns load m = turns_of tape_changes tape_tells (load ∷ Run 1000 1024 ∷ Collect 1024 256 ∷ []) (stage nothing_held (after_clear tape_changes m) (replicate 1024 blank) (replicate 1024 blank) (replicate 256 (kind_cell 0)))
 
-pub row_is_listed : (types : List TypeCell) (terms : List TermCell) (load : Turn) (m : Meaning Reel) (replies : List (Option Reply)) (end : Stage Tape) (s : Shot)
+-- three replies report so
+abbrev pub TheseReport : List (Option Reply) → Result RunReport TurnFault → Type 0
+TheseReport [] t = ⊥
+TheseReport (l ∷ []) t = ⊥
+TheseReport (l ∷ r ∷ []) t = ⊥
+TheseReport (l ∷ r ∷ c ∷ []) t = Reports l r c t
+TheseReport (l ∷ r ∷ c ∷ d ∷ ds) t = ⊥
+
+-- the replies to the turns of a shot
+abbrev pub shot_replies : Turn → Meaning Reel → List (Option Reply)
+shot_replies load m = map Some (shot_turns load m).0 ++ drop (length (shot_turns load m).0) (replicate 3 None)
+
+pub row_is_listed : (types : List TypeCell) (terms : List TermCell) (load : Turn) (m : Meaning Reel) (replies : List (Option Reply)) (end : Stage Tape) (t : Result RunReport TurnFault)
     → Loads types terms load → m ≡ new_tape 8 (alternating 64) (replicate 64 Empty)
-    → replies ≡ map Some (shot_turns load m).0 ++ drop (length (shot_turns load m).0) (replicate 3 None)
-    → Ended end (shot_turns load m).1 → Tells replies end s → listing_lines s ≡ cells_listed types terms
-row_is_listed types terms (Load t k) m replies end s l q e d tells =
-    let told = subst (λ r. Tells r end s) e tells in
-    go m q d told ∙ ap₂ cells_listed l.0 l.1
+    → replies ≡ shot_replies load m → Ended end (shot_turns load m).1 → TheseReport replies t → listing_lines (reported t end) ≡ cells_listed types terms
+row_is_listed types terms (Load types' terms') m replies end t l q e d r = go m q d (subst (λ ys. TheseReport ys t) e r) ∙ ap₂ cells_listed l.0 l.1
   where
-    go : (m : Meaning Reel) → m ≡ new_tape 8 (alternating 64) (replicate 64 Empty) → Ended end (shot_turns (Load t k) m).1
-        → Tells (map Some (shot_turns (Load t k) m).0 ++ drop (length (shot_turns (Load t k) m).0) (replicate 3 None)) end s → listing_lines s ≡ cells_listed t.now k.now
-    go m q d told =
-        let n = new_tape 8 (alternating 64) (replicate 64 Empty) in
-        checked_is_listed end t.now k.now (program_verdict t.now k.now) s
-        (subst (λ m. Ended end (shot_turns (Load t k) m).1) q d)
-        (subst (λ m. Tells (map Some (shot_turns (Load t k) m).0 ++ drop (length (shot_turns (Load t k) m).0) (replicate 3 None)) end s) q told)
-row_is_listed types terms (Step room) m replies end s l q e d tells = absurd l
-row_is_listed types terms (Run budget room) m replies end s l q e d tells = absurd l
-row_is_listed types terms (Collect room kind_room) m replies end s l q e d tells = absurd l
-row_is_listed types terms Abandon m replies end s l q e d tells = absurd l
+    go : (m : Meaning Reel) → m ≡ new_tape 8 (alternating 64) (replicate 64 Empty) → Ended end (shot_turns (Load types' terms') m).1
+        → TheseReport (shot_replies (Load types' terms') m) t → listing_lines (reported t end) ≡ cells_listed types'.now terms'.now
+    go m q d r =
+        checked_is_listed end types'.now terms'.now (program_verdict types'.now terms'.now) t
+        (subst (λ m. Ended end (shot_turns (Load types' terms') m).1) q d)
+        (subst (λ m. TheseReport (shot_replies (Load types' terms') m) t) q r)
+row_is_listed types terms (Step room) m replies end t l q e d r = absurd l
+row_is_listed types terms (Run budget room) m replies end t l q e d r = absurd l
+row_is_listed types terms (Collect room kind_room) m replies end t l q e d r = absurd l
+row_is_listed types terms Abandon m replies end t l q e d r = absurd l
+
+-- the replies to a load, a run and a collect report something
+module _ (types : List TypeCell) (terms : List TermCell) (a : Stage (Meaning Reel)) where
+  abbrev loaded_from : Verdict → Reply × Stage (Meaning Reel)
+  loaded_from v = load_turn tape_changes tape_tells types terms a v
+
+  some_report : (v : Verdict) → (t : Result RunReport TurnFault)
+      × Reports (Some (loaded_from v).0) (Some (ran_from (loaded_from v).1).0) (Some (collected_from (ran_from (loaded_from v).1).1).0) t
+  some_report (Ok u) =
+      let x = load_answer a.register.makes a.shot terms in
+      let b = after_load types terms a x in
+      let y = run_of tape_changes tape_tells 1000 (run_start tape_changes tape_tells 1024 b) in
+      let z = collect_answer y.1.shot (min 1024 (length b.value)) (min 256 (length b.kinds)) in
+      (report_from x y.0 z, so_reported x y.0 z)
+  some_report (Err f) = (Err (NotAccepted f), refl)
+
+pub row_reports : (types : List TypeCell) (terms : List TermCell) (load : Turn) (m : Meaning Reel) → Loads types terms load → (t : Result RunReport TurnFault) × TheseReport (shot_replies load m) t
+row_reports types terms (Load types' terms') m l =
+    some_report types'.now terms'.now (stage nothing_held (after_clear tape_changes m) (replicate 1024 blank) (replicate 1024 blank) (replicate 256 (kind_cell 0))) (program_verdict types'.now terms'.now)
+row_reports types terms (Step room) m l = absurd l
+row_reports types terms (Run budget room) m l = absurd l
+row_reports types terms (Collect room kind_room) m l = absurd l
+row_reports types terms Abandon m l = absurd l
+
+-- the row of a shot on a new tape: what its turns come to
+pub row_comes_to : (tape : Tape) (load : Turn) (replies : List (Option Reply)) (end : Stage Tape)
+    → RowOfShot ghosts tape load replies end
+    → (replies ≡ shot_replies load (tape_meaning tape)) × (meant_stage ghosts end ≡ (shot_turns load (tape_meaning tape)).1)
+row_comes_to tape load replies end p = row_settled ghosts (fresh_stage tape) (load ∷ Run 1000 1024 ∷ Collect 1024 256 ∷ []) (replicate 3 None) replies end p tape_tells (λ r. refl)
 
 pub played_is_listed : (types : List TypeCell) (terms : List TermCell) (s : Shot) → CellsPlayed ghosts types terms s → listing_lines s ≡ cells_listed types terms
 played_is_listed types terms s p =
-    let e = row_settled ghosts (fresh_stage p.tape) (p.load ∷ Run 1000 1024 ∷ Collect 1024 256 ∷ []) (replicate 3 None) p.replies p.end p.played tape_tells (λ r. refl) in
-    row_is_listed types terms p.load (tape_meaning p.tape) p.replies p.end s p.loads p.is_new e.0
-    (record { value = ap (λ (a : Stage (Meaning Reel)). a.value) e.1; kinds = ap (λ (a : Stage (Meaning Reel)). a.kinds) e.1; entries = ap (λ (a : Stage (Meaning Reel)). a.register.content.entries) e.1 }) p.tells
+    let e = row_comes_to p.tape p.load (p.loaded ∷ p.run ∷ p.collected ∷ []) p.end p.played in
+    ap listing_lines p.shot
+    ∙ row_is_listed types terms p.load (tape_meaning p.tape) (p.loaded ∷ p.run ∷ p.collected ∷ []) p.end p.report p.loads p.is_new e.0
+    (record { value = ap (λ (a : Stage (Meaning Reel)). a.value) e.1; kinds = ap (λ (a : Stage (Meaning Reel)). a.kinds) e.1; entries = ap (λ (a : Stage (Meaning Reel)). a.register.content.entries) e.1 })
+    p.reports
+
+-- the replies to a row that is played report something
+pub reports_here : (types : List TypeCell) (terms : List TermCell) (tape : Tape) (load : Turn) (replies : List (Option Reply)) (end : Stage Tape) → Loads types terms load → length replies ≡ 3
+    → RowOfShot ghosts tape load replies end
+    → (t : Result RunReport TurnFault) × Reports (get_or replies 0 None) (get_or replies 1 None) (get_or replies 2 None) t
+reports_here types terms tape load replies end l n p =
+    let e = row_comes_to tape load replies end p in
+    let r = row_reports types terms load (tape_meaning tape) l in
+    (r.0, subst (λ ys. TheseReport ys r.0) (sym e.0 ∙ three replies None n) r.1)
+
+-- the journal keeps its length
+pub entries_here : (types : List TypeCell) (terms : List TermCell) (tape : Tape) (load : Turn) (replies : List (Option Reply)) (end : Stage Tape)
+    → Loads types terms load → tape_meaning tape ≡ new_tape 8 (alternating 64) (replicate 64 Empty)
+    → RowOfShot ghosts tape load replies end → length (tape_reel end.register).entries ≡ 64
+entries_here types terms tape (Load types' terms') replies end l q p =
+    ap (λ (b : Stage (Meaning Reel)). entries b.register) (row_comes_to tape (Load types' terms') replies end p).1
+    ∙ turns_keep types'.now terms'.now 1000 1024 1024 256 (stage nothing_held (after_clear tape_changes (tape_meaning tape)) (replicate 1024 blank) (replicate 1024 blank) (replicate 256 (kind_cell 0))) (program_verdict types'.now terms'.now)
+    ∙ ap entries q
+entries_here types terms tape (Step room) replies end l q p = absurd l
+entries_here types terms tape (Run budget room) replies end l q p = absurd l
+entries_here types terms tape (Collect room kind_room) replies end l q p = absurd l
+entries_here types terms tape Abandon replies end l q p = absurd l
+
+-- a shot that is what such a row's replies report
+pub cells_played : (types : List TypeCell) (terms : List TermCell) (tape : Tape) (load : Turn) (replies : List (Option Reply)) (end : Stage Tape) (t : Result RunReport TurnFault) (s : Shot)
+    → Loads types terms load → tape_meaning tape ≡ new_tape 8 (alternating 64) (replicate 64 Empty) → length replies ≡ 3
+    → RowOfShot ghosts tape load replies end
+    → Reports (get_or replies 0 None) (get_or replies 1 None) (get_or replies 2 None) t → s ≡ reported t end → CellsPlayed ghosts types terms s
+cells_played types terms tape load replies end t s l q n p r e = record {
+  load = load;
+  loads = l;
+  tape = tape;
+  is_new = q;
+  loaded = get_or replies 0 None;
+  run = get_or replies 1 None;
+  collected = get_or replies 2 None;
+  end = end;
+  played = subst (λ ys. RowOfShot ghosts tape load ys end) (three replies None n) p;
+  report = t;
+  reports = r;
+  shot = e;
+}
 
 read_is_listed : (x : Result (ℕ × ℕ) ReadFault) (types : List TypeCell) (terms : List TermCell) (s : Shot) → ReadAndPlayed ghosts x types terms s → listing_lines s ≡ read_listed x types terms
 read_is_listed (Ok n) types terms s p = played_is_listed (take n.0 types) (take n.1 terms) s p

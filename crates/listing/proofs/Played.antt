@@ -1,5 +1,5 @@
 -- A row that is played on a new tape, and a text that is read into new tables.
-use Rattle.std.proofs.Common.{◌≡◌, ℕ, List, [], ◌∷◌, length, get_or, replicate, None, Ok, Err, IfOk, Option, Result, ap, ap₂, subst, ◌∙◌, arith}
+use Rattle.std.proofs.Common.{◌≡◌, ℕ, List, [], ◌∷◌, length, get_or, replicate, take, None, Ok, Option, Result, refl, ap, ap₂, subst, ◌∙◌, arith}
 use Rattle.calculus.specs.Cells.{blank, kind_cell}
 use Rattle.calculus.specs.declared.cells.TermCell.{TermCell}
 use Rattle.calculus.specs.declared.cells.TypeCell.{TypeCell}
@@ -7,29 +7,46 @@ use Rattle.registers.specs.declared.tape.Tape.{Tape}
 use Rattle.reader.specs.Reading.{reading}
 use Rattle.reader.specs.declared.faults.ReadFault.{ReadFault}
 use Rattle.controller.specs.Shots.{nothing_held}
+use Rattle.player.specs.Playing.{RowPlayed}
 use Rattle.player.specs.Stages.{Reply, Stage, stage}
-use Rattle.listing.specs.declared.shots.Shot.{Shot}
-use Rattle.listing.specs.Playing.{run_made, cells_collected, IsMade, Tells, fresh_stage, text_read}
+use Rattle.player.specs.declared.turns.Turn.{Turn}
+use Rattle.player.specs.declared.turns.Turn.TheVariants.{Run, Collect}
+use Rattle.registers.specs.contracts.tape.TapeRegister.TheImpl.{ghosts}
+use Rattle.arrayvec.specs.ArrayVec.{ArrayVec}
+use Rattle.registers.specs.Journal.{tape_reel}
+use Rattle.registers.specs.declared.journal.Entry.{Entry}
+use Rattle.listing.specs.Playing.{RowOfShot, reported, text_read}
+use Rattle.listing.specs.declared.replies.RunReport.{RunReport}
+use Rattle.listing.specs.declared.shots.Shot.TheVariants.{Ran}
 
--- a table of new cells
-pub new_table : {X : Type 0} {xs : List X} (n : ℕ) {x y : X} → xs ≡ replicate n x → x ≡ y → xs ≡ replicate n y
-new_table n e f = e ∙ ap (replicate n) f
+-- a row that is played with new tables
+pub on_new_tables : (tape : Tape) (load : Turn) (replies : List (Option Reply)) (end : Stage Tape) {w v : TermCell} {k : TypeCell} → w ≡ blank → v ≡ blank → k ≡ kind_cell 0
+    → RowPlayed ghosts (stage nothing_held tape (replicate 1024 w) (replicate 1024 v) (replicate 256 k)) (load ∷ Run 1000 1024 ∷ Collect 1024 256 ∷ []) (replicate 3 None) replies end
+    → RowOfShot ghosts tape load replies end
+on_new_tables tape load replies end {w = w} {v = v} {k = k} e f g p =
+    let P = λ (s : Stage Tape). RowPlayed ghosts s (load ∷ Run 1000 1024 ∷ Collect 1024 256 ∷ []) (replicate 3 None) replies end in
+    subst (λ c. P (stage nothing_held tape (replicate 1024 blank) (replicate 1024 blank) (replicate 256 c))) g
+    (subst (λ c. P (stage nothing_held tape (replicate 1024 blank) (replicate 1024 c) (replicate 256 k))) f
+    (subst (λ c. P (stage nothing_held tape (replicate 1024 c) (replicate 1024 v) (replicate 256 k))) e p))
 
--- what holds of a stage whose tables are as a shot's are at first
-pub on_fresh : (P : Stage Tape → Type 0) (tape : Tape) (w v : List TermCell) (k : List TypeCell) → w ≡ replicate 1024 blank → v ≡ replicate 1024 blank → k ≡ replicate 256 (kind_cell 0)
-    → P (stage nothing_held tape w v k) → P (fresh_stage tape)
-on_fresh P tape w v k e f g p =
-    subst (λ z. P (stage nothing_held tape (replicate 1024 blank) (replicate 1024 blank) z)) g
-    (subst (λ z. P (stage nothing_held tape (replicate 1024 blank) z k)) f (subst (λ z. P (stage nothing_held tape z v k)) e p))
+-- a run with the first cells of both tables and a copy of the journal
+pub ran_is : (r : RunReport) (end : Stage Tape) {value : ArrayVec TermCell} {kinds : ArrayVec TypeCell} {journal : List Entry}
+    → value.items ≡ take r.cells end.value → kinds.items ≡ take r.kind_cells end.kinds → journal ≡ (tape_reel end.register).entries
+    → Ran r.steps r.stop value kinds journal ≡ reported (Ok r) end
+ran_is r end {value = value} {kinds = kinds} {journal = journal} e f g =
+    let value' : ArrayVec TermCell = record { items = take r.cells end.value } in
+    let kinds' : ArrayVec TypeCell = record { items = take r.kind_cells end.kinds } in
+    ap (λ xs. Ran r.steps r.stop (record { items = xs }) kinds journal) e
+    ∙ ap (λ xs. Ran r.steps r.stop value' (record { items = xs }) journal) f
+    ∙ ap (λ xs. Ran r.steps r.stop value' kinds' xs) g
 
--- the replies are those to a load, a run and a collect
-pub told : (xs : List (Option Reply)) (end : Stage Tape) (s : Shot) → length xs ≡ 3
-    → IsMade (run_made (get_or xs 0 None) (get_or xs 1 None)) (cells_collected (get_or xs 2 None)) end s → Tells xs end s
-told [] end s e p = absurd (omega (arith, e))
-told (x ∷ []) end s e p = absurd (omega (arith, e))
-told (x ∷ y ∷ []) end s e p = absurd (omega (arith, e))
-told (x ∷ y ∷ z ∷ []) end s e p = p
-told (x ∷ y ∷ z ∷ w ∷ ws) end s e p = absurd (omega (arith, e))
+-- three replies
+pub three : {X : Type 0} (xs : List X) (d : X) → length xs ≡ 3 → xs ≡ get_or xs 0 d ∷ get_or xs 1 d ∷ get_or xs 2 d ∷ []
+three [] d e = absurd (omega (arith, e))
+three (x ∷ []) d e = absurd (omega (arith, e))
+three (x ∷ y ∷ []) d e = absurd (omega (arith, e))
+three (x ∷ y ∷ z ∷ []) d e = refl
+three (x ∷ y ∷ z ∷ w ∷ ws) d e = absurd (omega (arith, e))
 
 -- a reading into new tables
 pub read_fresh : (text : List ℕ) {types : List TypeCell} {terms : List TermCell} → types ≡ replicate 256 (kind_cell 0) → terms ≡ replicate 512 blank → reading text types terms ≡ text_read text
@@ -44,7 +61,3 @@ text_is P text {types = types} {types' = types'} {terms = terms} {answer = answe
     let o = reading text types terms in
     subst (λ o. P o.answer o.types o.terms) (read_fresh text e f)
     (subst (λ x. P x o.types o.terms) g (subst (λ ts. P answer ts o.terms) h (subst (λ ms. P answer types' ms) i p)))
-
-pub if_ok : {E : Type 0} {P Q : Shot → Type 0} (r : Result Shot E) → ((s : Shot) → P s → Q s) → IfOk r P → IfOk r Q
-if_ok (Ok s) f p = f s p
-if_ok (Err e) f p = tt

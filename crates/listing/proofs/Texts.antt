@@ -1,6 +1,9 @@
 -- The text of lines, one line more, and of lines in a row.
-use Rattle.std.proofs.Common.{◌≡◌, ℕ, ◌+◌, ◌<◌, List, [], ◌∷◌, ◌++◌, length, take, get_or, arith}
+use Rattle.std.proofs.Common.{◌≡◌, ℕ, ◌+◌, ◌<◌, List, [], ◌∷◌, ◌++◌, length, take, get_or, ◌∙◌, arith}
+use Rattle.std.specs.List.{enumerate_from}
 use Rattle.std.proofs.lemmas.Grind.{common_steps, flat_map-append}
+use Rattle.std.proofs.lemmas.List.{length-map}
+use Rattle.std.proofs.lemmas.List.FromFn.{length-enumerate_from}
 use Rattle.registers.specs.declared.journal.Entry.{Entry}
 use Rattle.listing.specs.Lines.{line_text, text_of}
 use Rattle.listing.specs.Listing.{pulse_line, pulse_lines}
@@ -14,3 +17,7 @@ pulses_more xs k d within =
     let c = counted_more xs k d within in
     let a = text_append (pulse_lines (take k xs)) (pulse_line k (get_or xs k d) ∷ []) in
     grind (arith, common_steps, c, a)
+
+-- a line for each pulse
+pub length-pulse_lines : (xs : List Entry) → length (pulse_lines xs) ≡ length xs
+length-pulse_lines xs = length-map (enumerate_from 0 xs) (λ p. pulse_line p.0 p.1) ∙ length-enumerate_from 0 xs

@@ -3,5 +3,7 @@ pub mod Lines
 pub mod Listed
 pub mod Listing
 pub mod Playing
+pub mod Replies
 pub mod Samples
 pub mod Shots
+pub mod Writing

@@ -21,8 +21,8 @@ use Rattle.controller.specs.Settled.{run_of}
 use Rattle.controller.specs.Shots.{Held, nothing_held, program_held}
 use Rattle.controller.specs.Unloading.{collect_answer}
 use Rattle.listing.specs.Lines.{text_of}
-use Rattle.listing.specs.Listing.{refusal_line, run_lines}
-use Rattle.listing.specs.Playing.{alternating, before_empty, text_read}
+use Rattle.listing.specs.Listing.{before_empty, refusal_line, run_lines}
+use Rattle.listing.specs.Playing.{alternating, text_read}
 
 -- where the run of a program begins: it is loaded on a new tape of eight qubits, whose 64 outcomes alternate, and the work table is new
 abbrev pub run_begins : List TypeCell → List TermCell → Standing Reel

@@ -69,10 +69,16 @@ abbrev pub run_lines : ℕ → Stop → List TypeCell → List TermCell → List
 run_lines steps stop kinds value journal =
     steps_line steps stop ∷ (map kind_line kinds ++ (map op_line value ++ (pulse_lines journal ++ stop_lines stop)))
 
+-- the entries before the first that no pulse filled
+abbrev pub before_empty : List Entry → List Entry
+before_empty [] = []
+before_empty (Empty ∷ es) = []
+before_empty (e ∷ es) = e ∷ before_empty es
+
 -- a refusal before the load stands alone
 abbrev pub listing_lines : Shot → List (List (List ℕ))
 listing_lines (Refused number place) = refusal_line number place ∷ []
-listing_lines (Ran steps stop value kinds journal) = run_lines steps stop kinds.items value.items journal.items
+listing_lines (Ran steps stop value kinds journal) = run_lines steps stop kinds.items value.items (before_empty journal)
 
 abbrev pub listing_text : Shot → List ℕ
 listing_text shot = text_of (listing_lines shot)

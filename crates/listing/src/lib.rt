@@ -3,8 +3,9 @@
 
 mod lines;
 mod promises;
+mod replies;
 mod shots;
 
-pub use lines::listing;
+pub use lines::{Listing, MOST_LISTING_BYTES, listing};
 pub use promises::{listings_are_read_back, samples_are_listed, texts_are_listed};
-pub use shots::{MOST_BYTES, Shot, play};
+pub use shots::{MOST_BYTES, Shot, play_text};

@@ -1,15 +1,30 @@
 //! Writes the listing of a shot.
 
-ghost use Rattle.std.specs.Prelude.{◌≡◌, ◌++◌, IfOk, OnOk, [], ◌∷◌, map};
-ghost use Rattle.std.specs.String.{string_bytes};
-ghost use Rattle.listing.specs.Lines.{text_of};
-ghost use Rattle.listing.specs.Listing.{code_of, kind_line, op_line, pulse_line, pulse_lines, refusal_line, stop_lines, listing_text};
+ghost use Rattle.std.specs.Prelude.{◌≡◌, ◌+◌, ◌≤◌, ◌++◌, [], ◌∷◌, length, map, decimal, encode_utf8};
+ghost use Rattle.arrayvec.specs.ArrayString.{array_string_len};
+ghost use Rattle.listing.specs.Listing.{before_empty, code_of, steps_line, kind_line, op_line, pulse_line};
+ghost use Rattle.listing.specs.Listing.{pulse_lines, refusal_line, stop_lines, listing_text};
+ghost use Rattle.listing.specs.Writing.{RoomFor, Appends};
 
-use crate::shots::Shot;
-use calculus::{Gate, TermCell, TypeCell};
+use crate::shots::{PULSES, Shot};
+use arrayvec::ArrayString;
+use calculus::{Gate, MOST_RUNNING_CELLS, MOST_TYPE_CELLS, TermCell, TypeCell};
 use controller::Stop;
+use itoa::{Buffer, Integer};
 use registers::Entry;
-use std::alloc::{AllocError, Global};
+
+/// Bytes that a line has at most, with its end.
+pub const LINE_BYTES: usize = "X 65535 18446744073709551615\n".len();
+
+/// Lines that a listing has at most: an S line, a T line for each cell of a type, an M line for
+/// each cell of a value, a J line for each pulse, and an X line.
+pub const MOST_LINES: usize = 1 + MOST_TYPE_CELLS + MOST_RUNNING_CELLS + PULSES + 1;
+
+/// Bytes that a listing has at most.
+pub const MOST_LISTING_BYTES: usize = MOST_LINES * LINE_BYTES;
+
+/// The text of a listing.
+pub type Listing = ArrayString<MOST_LISTING_BYTES>;
 
 // The code of a stop.
 fn stop_code(stop: &Stop) -> u8
@@ -22,94 +37,195 @@ fn stop_code(stop: &Stop) -> u8
     }
 }
 
+// Appends a blank and a letter.
+#[tactic(auto, using(crate::proofs::Room::encoded_short))]
+fn push_letter(out: &mut Listing, letter: char)
+    requires { array_string_len out.old + 5 ≤ MOST_LISTING_BYTES }
+    ensures text { out.new.bytes ≡ out.old.bytes ++ 32 ∷ encode_utf8 letter }
+    ensures short { array_string_len out.new ≤ array_string_len out.old + 5 }
+{
+    out.push(' ');
+    out.push(letter);
+}
+
+// Appends a blank and a number.
+fn push_number<I: Integer>(out: &mut Listing, number: I)
+    requires { array_string_len out.old + 1 + I.MAX_STR_LEN ≤ MOST_LISTING_BYTES }
+    ensures text { out.new.bytes ≡ out.old.bytes ++ 32 ∷ I.text number }
+    ensures short { array_string_len out.new ≤ array_string_len out.old + 1 + I.MAX_STR_LEN }
+{
+    let mut digits = Buffer::new();
+    out.push(' ');
+    out.push_str(digits.format(number));
+}
+
+// Appends the line of the steps and the stop.
+fn push_steps(out: &mut Listing, steps: u64, stop: &Stop)
+    requires { RoomFor 1 out.old }
+    ensures { Appends out.old out.new (steps_line steps stop.now ∷ []) }
+{
+    out.push('S');
+    push_number(out, steps);
+    push_number(out, stop_code(stop));
+    out.push('\n');
+}
+
+// Appends the line of a cell of a type.
+fn push_kind(out: &mut Listing, cell: TypeCell)
+    requires { RoomFor 1 out.old }
+    ensures { Appends out.old out.new (kind_line cell ∷ []) }
+{
+    out.push('T');
+    push_letter(out, cell.kind);
+    out.push('\n');
+}
+
 // Appends the lines of a value's type.
-fn push_kinds(out: &mut String, kinds: &[TypeCell]) -> Result<(), AllocError>
-    ensures { OnOk result (string_bytes out.new ≡ string_bytes out.old ++ text_of (map kind_line kinds.now)) }
+fn push_kinds(out: &mut Listing, kinds: &[TypeCell])
+    requires { RoomFor (length kinds.now) out.old }
+    ensures { Appends out.old out.new (map kind_line kinds.now) }
 {
     for cell in kinds {
-        let kind = cell.kind;
-        writeln!(out, "T {kind}")?;
+        push_kind(out, *cell);
     }
-    Ok(())
+}
+
+// Appends the line of a cell of a value.
+fn push_op(out: &mut Listing, cell: TermCell)
+    requires { RoomFor 1 out.old }
+    ensures { Appends out.old out.new (op_line cell ∷ []) }
+{
+    out.push('M');
+    push_letter(out, cell.op);
+    push_number(out, cell.argument);
+    out.push('\n');
 }
 
 // Appends the lines of a value.
-fn push_ops(out: &mut String, value: &[TermCell]) -> Result<(), AllocError>
-    ensures { OnOk result (string_bytes out.new ≡ string_bytes out.old ++ text_of (map op_line value.now)) }
+fn push_ops(out: &mut Listing, value: &[TermCell])
+    requires { RoomFor (length value.now) out.old }
+    ensures { Appends out.old out.new (map op_line value.now) }
 {
     for cell in value {
-        let op = cell.op;
-        let argument = cell.argument;
-        writeln!(out, "M {op} {argument}")?;
+        push_op(out, *cell);
     }
-    Ok(())
+}
+
+// Appends the number of a pulse, with which its line begins.
+fn push_pulse_number(out: &mut Listing, pulse: u8)
+    requires { array_string_len out.old + 5 ≤ MOST_LISTING_BYTES }
+    ensures text { out.new.bytes ≡ out.old.bytes ++ 74 ∷ 32 ∷ decimal pulse }
+    ensures short { array_string_len out.new ≤ array_string_len out.old + 5 }
+{
+    out.push('J');
+    push_number(out, pulse);
 }
 
 // Appends the line of a gate: its handles, and a dash for each that it does not take.
-fn push_gate(out: &mut String, pulse: usize, gate: Gate, on: [u8; 3]) -> Result<(), AllocError>
-    ensures { OnOk result (string_bytes out.new ≡ string_bytes out.old ++ text_of (pulse_line pulse (Entry.Gate gate on) ∷ [])) }
+fn push_gate(out: &mut Listing, pulse: u8, gate: Gate, on: [u8; 3])
+    requires { RoomFor 1 out.old }
+    ensures { Appends out.old out.new (pulse_line pulse (Entry.Gate gate on) ∷ []) }
 {
-    let number = u16::from(gate);
     let [a, b, c] = on;
+    push_pulse_number(out, pulse);
+    out.push_str(" G");
+    push_number(out, u16::from(gate));
+    push_number(out, a);
     match gate.operands() {
-        1 => writeln!(out, "J {pulse} G {number} {a} - -"),
-        2 => writeln!(out, "J {pulse} G {number} {a} {b} -"),
-        _ => writeln!(out, "J {pulse} G {number} {a} {b} {c}"),
+        1 => out.push_str(" - -\n"),
+        2 => {
+            push_number(out, b);
+            out.push_str(" -\n");
+        }
+        _ => {
+            push_number(out, b);
+            push_number(out, c);
+            out.push('\n');
+        }
     }
 }
 
 // Appends the line of a pulse, with a dash for each field that its call leaves empty.
-fn push_pulse(out: &mut String, pulse: usize, entry: Entry) -> Result<(), AllocError>
-    ensures { OnOk result (string_bytes out.new ≡ string_bytes out.old ++ text_of (pulse_line pulse entry ∷ [])) }
+fn push_pulse(out: &mut Listing, pulse: u8, entry: Entry)
+    requires { RoomFor 1 out.old }
+    ensures { Appends out.old out.new (pulse_line pulse entry ∷ []) }
 {
     match entry {
         Entry::Prepare { handle, bit } => {
-            let bit = u8::from(bit);
-            writeln!(out, "J {pulse} P {handle} {bit} - -")
-        },
+            push_pulse_number(out, pulse);
+            out.push_str(" P");
+            push_number(out, handle);
+            push_number(out, u8::from(bit));
+            out.push_str(" - -\n");
+        }
         Entry::Read { handle, outcome } => {
-            let outcome = u8::from(outcome);
-            writeln!(out, "J {pulse} R {handle} {outcome} - -")
-        },
+            push_pulse_number(out, pulse);
+            out.push_str(" R");
+            push_number(out, handle);
+            push_number(out, u8::from(outcome));
+            out.push_str(" - -\n");
+        }
         Entry::Gate { gate, on } => push_gate(out, pulse, gate, on),
-        Entry::Empty => writeln!(out, "J {pulse} - - - - -"),
+        Entry::Empty => {
+            push_pulse_number(out, pulse);
+            out.push_str(" - - - - -\n");
+        }
     }
+}
+
+// The entries of a journal up to the first that no pulse filled.
+fn pulses_made(journal: &[Entry; PULSES]) -> &[Entry]
+    ensures pulses { result.now ≡ before_empty journal.now }
+    ensures few { length result.now ≤ PULSES }
+{
+    let made = journal
+        .iter()
+        .take_while(|entry| !matches!(entry, Entry::Empty))
+        .count();
+    &journal[..made]
 }
 
 // Appends a line for each pulse.
-fn push_journal(out: &mut String, journal: &[Entry]) -> Result<(), AllocError>
-    ensures { OnOk result (string_bytes out.new ≡ string_bytes out.old ++ text_of (pulse_lines journal.now)) }
+fn push_pulses(out: &mut Listing, pulses: &[Entry])
+    requires room { RoomFor (length pulses.now) out.old }
+    requires few { length pulses.now ≤ PULSES }
+    ensures { Appends out.old out.new (pulse_lines pulses.now) }
 {
-    for (pulse, entry) in journal.iter().enumerate() {
-        push_pulse(out, pulse, *entry)?;
+    for (pulse, entry) in pulses.iter().enumerate() {
+        push_pulse(out, pulse as u8, *entry);
     }
-    Ok(())
 }
 
 // Appends the line of a refusal.
-fn push_refusal(out: &mut String, number: u16, place: u64) -> Result<(), AllocError>
-    ensures { OnOk result (string_bytes out.new ≡ string_bytes out.old ++ text_of (refusal_line number place ∷ [])) }
+fn push_refusal(out: &mut Listing, number: u16, place: u64)
+    requires { RoomFor 1 out.old }
+    ensures { Appends out.old out.new (refusal_line number place ∷ []) }
 {
-    writeln!(out, "X {number} {place}")
+    out.push('X');
+    push_number(out, number);
+    push_number(out, place);
+    out.push('\n');
 }
 
 // Appends the line of a refused step, if a run stopped at one.
-fn push_stop(out: &mut String, stop: &Stop) -> Result<(), AllocError>
-    ensures { OnOk result (string_bytes out.new ≡ string_bytes out.old ++ text_of (stop_lines stop.now)) }
+fn push_stop(out: &mut Listing, stop: &Stop)
+    requires { RoomFor 1 out.old }
+    ensures { Appends out.old out.new (stop_lines stop.now) }
 {
     match stop {
         Stop::Refused { fault, steps } => push_refusal(out, fault.number(), *steps),
-        Stop::Value | Stop::Budget => Ok(()),
+        Stop::Value | Stop::Budget => (),
     }
 }
 
-/// The listing of a shot: a line for the steps and the stop, the value with its type, a line for each pulse, and a refusal last.
-pub fn listing(heap: Global, shot: &Shot) -> Result<String, AllocError>
-    ensures { IfOk result (λ s. string_bytes s ≡ listing_text shot.now) }
+/// The listing of a shot: a line for the steps and the stop, the value with its type, a line for
+/// each pulse, and a refusal last.
+pub fn listing(shot: &Shot) -> Listing
+    ensures { result.bytes ≡ listing_text shot.now }
 {
-    let mut out = String::new(heap);
+    let mut out = Listing::new();
     match shot {
-        Shot::Refused { number, place } => push_refusal(&mut out, *number, *place)?,
+        Shot::Refused { number, place } => push_refusal(&mut out, *number, *place),
         Shot::Ran {
             steps,
             stop,
@@ -117,12 +233,12 @@ pub fn listing(heap: Global, shot: &Shot) -> Result<String, AllocError>
             kinds,
             journal,
         } => {
-            writeln!(out, "S {steps} {}", stop_code(stop))?;
-            push_kinds(&mut out, kinds)?;
-            push_ops(&mut out, value)?;
-            push_journal(&mut out, journal)?;
-            push_stop(&mut out, stop)?;
+            push_steps(&mut out, *steps, stop);
+            push_kinds(&mut out, kinds.as_slice());
+            push_ops(&mut out, value.as_slice());
+            push_pulses(&mut out, pulses_made(journal));
+            push_stop(&mut out, stop);
         }
     }
-    Ok(out)
+    out
 }

@@ -1,8 +1,7 @@
-use Rattle.std.proofs.Common.{◌≡◌, ◌++◌, map, take}
-use Rattle.std.specs.String.{string_bytes}
-use Rattle.listing.specs.Lines.{text_of}
+use Rattle.std.proofs.Common.{map, take}
 use Rattle.listing.specs.Listing.{kind_line}
+use Rattle.listing.specs.Writing.{Appends}
 use Rattle.listing.proofs.lines.push_kinds.Given as goal
 
 abbrev pub invariant-loop-cell : goal.invariant-loop-cell
-invariant-loop-cell l = string_bytes l.out ≡ string_bytes l.fn.out ++ text_of (map kind_line (take l.cell-index l.kinds))
+invariant-loop-cell l = Appends l.fn.out l.out (map kind_line (take l.cell-index l.kinds))
