@@ -16,7 +16,7 @@ use Rattle.finder.specs.Faults.{fault, number_of}
 use Rattle.finder.specs.Finding.{tested, told, past_tests, answer}
 use Rattle.finder.specs.Laws.{Means}
 use Rattle.finder.specs.Search.{Found, found}
-use Rattle.finder.specs.Sheet.{Row, too_many, not_allowed, unfinished, left_over, no_rule, IsFirst, FirstRowAnswers}
+use Rattle.finder.specs.Sheet.{Row, too_many, not_allowed, unfinished, left_over, no_rule, IsFirst, Answers, FirstRowAnswers}
 use Rattle.finder.specs.declared.rules.Rule.{Rule}
 use Rattle.finder.specs.declared.faults.FindFault.{FindFault}
 use Rattle.finder.specs.declared.faults.FindReason.{FindReason}
@@ -130,8 +130,7 @@ module _ (cs : List TermCell) where
   meant_term e = (search_is_reduction.passes cs).0 e
 
   abbrev Answered : Result (Option (Rule × ℕ)) FindFault → Type 0
-  Answered (Ok x) = (r : FindReason) (k : ℕ) → Row cs r k → ⊥
-  Answered (Err f) = IsFirst cs f
+  Answered = Answers cs
 
   -- a row of a due part without a step is what the finder answers
   rule_answer : (k : ℕ) → Row cs NoRule k → answer cs ≡ Err (fault NoRule k)
@@ -190,3 +189,7 @@ first_row_answers = record {
   refused = λ cs f. (is_answer cs f, λ e. subst (Answered cs) e (answer_said cs));
   accepted = λ cs. (some_answer cs, λ (x, e). subst (Answered cs) e (answer_said cs));
 }
+
+-- an answer that is the finder's is the sheet's
+pub first_row_is : (cs : List TermCell) (x : Result (Option (Rule × ℕ)) FindFault) → x ≡ answer cs → Answers cs x
+first_row_is cs x e = subst (Answers cs) (sym e) (answer_said cs)

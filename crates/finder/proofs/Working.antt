@@ -1,7 +1,7 @@
 -- The turns of the search over cells.
 use Rattle.std.proofs.Common.{◌≡◌, ℕ, ◌+◌, ◌<◌, ◌≤◌, List, ◌∷◌, None, Some, length, get_or, drop, sym, refl, ap, ◌∙◌, ap₂, subst, arith}
 use Rattle.std.proofs.lemmas.List.{get_or-drop}
-use Rattle.std.specs.Option.{option_or, MatchOption}
+use Rattle.std.specs.Option.{option_or}
 use Rattle.trees.specs.Reach.{ends}
 use Rattle.calculus.specs.Cells.{blank}
 use Rattle.calculus.specs.declared.cells.TermCell.{TermCell}
@@ -15,11 +15,6 @@ use Rattle.finder.specs.Words.{applied_of, branched_of, opened_of}
 use Rattle.finder.proofs.Spelling.{head, applied_cells, branched_cells, opened_cells}
 use Rattle.finder.proofs.Standing as standing
 
--- what is found first, and else what a call gives
-pub or_called : {A : Type 0} (o r x : Found) → MatchOption o A (λ v. r ≡ Some v) → (A → r ≡ x) → r ≡ option_or o x
-or_called None r x m f = f m
-or_called (Some v) r x m f = m
-
 pub or_or : (o p x : Found) → option_or (option_or o p) x ≡ option_or o (option_or p x)
 or_or None p x = refl
 or_or (Some v) p x = refl
@@ -30,7 +25,7 @@ module _ (cs : List TermCell) (stand : TermsStand cs) where
 
   -- the end of the term at a place, and what it waits for
   abbrev pub Works : ℕ → ℕ × Found → Type 0
-  Works at r = r ≡ (at + size (term_at cs at), found at (erased (term_at cs at)))
+  Works at r = (r.0 ≡ at + size (term_at cs at)) × (r.1 ≡ found at (erased (term_at cs at)))
 
   abbrev WorksFor : ℕ → Term ℕ → ℕ × Found → Type 0
   WorksFor at m r = (r.0 ≡ at + size m) × (r.1 ≡ found at (erased m))
@@ -38,12 +33,12 @@ module _ (cs : List TermCell) (stand : TermsStand cs) where
   worked : (at : ℕ) (m : Term ℕ) (ms : List (Term ℕ)) (r : ℕ × Found) → Stands at m ms → Works at r → WorksFor at m r
   worked at m ms r e w =
       let p = standing.is_term cs stand at m ms e in
-      (ap (λ t. t.0) w ∙ ap (λ k. at + size k) p, ap (λ t. t.1) w ∙ ap (λ k. found at (erased k)) p)
+      (w.0 ∙ ap (λ k. at + size k) p, w.1 ∙ ap (λ k. found at (erased k)) p)
 
   works : (at : ℕ) (m : Term ℕ) (ms : List (Term ℕ)) (i : ℕ) (w : Found) → Stands at m ms → WorksFor at m (i, w) → Works at (i, w)
   works at m ms i w e (p, q) =
       let t = sym (standing.is_term cs stand at m ms e) in
-      ap₂ (λ (a : ℕ) (b : Found). (a, b)) (p ∙ ap (λ k. at + size k) t) (q ∙ ap (λ k. found at (erased k)) t)
+      (p ∙ ap (λ k. at + size k) t, q ∙ ap (λ k. found at (erased k)) t)
 
   first_at : (at : ℕ) → get_or cs at blank ≡ head (drop at cs)
   first_at at = ap (λ i. get_or cs i blank) none ∙ sym (get_or-drop at cs 0 blank)

@@ -2,6 +2,7 @@ pub mod Due
 pub mod Faults
 pub mod Finding
 pub mod Laws
+pub mod Progress
 pub mod Samples
 pub mod Search
 pub mod Sheet

@@ -1,6 +1,6 @@
 -- The sheet of the finder's refusals, one constructor to a row, and the order in which they are
 -- tried.
-use Rattle.std.specs.Prelude.{◌≡◌, ℕ, ◌<◌, ◌⊎◌, ◌↔◌, false, List, ◌∷◌, ◌++◌, length, Some, Ok, Err, Option}
+use Rattle.std.specs.Prelude.{◌≡◌, ℕ, ◌<◌, ◌⊎◌, ◌↔◌, false, List, ◌∷◌, ◌++◌, length, Some, Ok, Err, Option, Result}
 use Rattle.std.specs.List.{slice_get}
 use Rattle.calculus.specs.Cells.{placed_cells}
 use Rattle.calculus.specs.Letters.{allowed}
@@ -36,6 +36,11 @@ Before r k q j = (number_of r < number_of q) ⊎ ((number_of r ≡ number_of q) 
 abbrev pub IsFirst : List TermCell → FindFault → Type 0
 IsFirst cells f = Row cells f.reason f.cell
     × ((r : FindReason) (k : ℕ) → Row cells r k → Before r k f.reason f.cell → ⊥)
+
+-- the answer that the sheet gives: a fault where it is the first row's, and none where a row holds
+abbrev pub Answers : List TermCell → Result (Option (Rule × ℕ)) FindFault → Type 0
+Answers cells (Ok x) = (r : FindReason) (k : ℕ) → Row cells r k → ⊥
+Answers cells (Err f) = IsFirst cells f
 
 -- The finder refuses by the first row that holds, and answers a value or a step exactly where none
 -- does.

@@ -1,12 +1,15 @@
 //! Finds the rule that applies to a running term, and the cell it applies at.
 
-ghost use Rattle.std.specs.Prelude.{◌≡◌, ◌+◌, ◌<◌, ◌≤◌, length, drop};
+ghost use Rattle.std.specs.Prelude.{◌≡◌, ◌+◌, ◌<◌, ◌≤◌, length, drop, Some};
+ghost use Rattle.std.specs.Option.{option_or};
 ghost use Rattle.calculus.specs.Letters.{arity};
 ghost use Rattle.calculus.specs.Reading.{term_at, TermsStand};
 ghost use Rattle.calculus.specs.Terms.{size, erased};
 ghost use Rattle.trees.specs.Reach.{ends};
 ghost use Rattle.finder.specs.Finding.{end_or, tested, answer};
+ghost use Rattle.finder.specs.Progress.{found_of};
 ghost use Rattle.finder.specs.Search.{found};
+ghost use Rattle.finder.specs.Sheet.{Answers};
 ghost use Rattle.finder.specs.Words.{spelt, operand_word, applied_of, branched_of, opened_of};
 
 use crate::faults::{FindFault, FindReason};
@@ -67,31 +70,65 @@ fn opened(pair: TermCell) -> Option<Rule>
     (pair.op == 'p').then_some(Rule::Pair)
 }
 
-/// One past the tree at `at`, or `at` itself where none stands there.
-pub fn past(cells: &[TermCell], at: usize) -> usize
+// One past the tree at `at`, or `at` itself where none stands there.
+fn past(cells: &[TermCell], at: usize) -> usize
     ensures end { result ≡ end_or at (ends arity 1 (drop at cells.now) at) }
     ensures on { at ≤ result }
 {
     reach(cells, at).unwrap_or(at)
 }
 
-// One past the tree at `at`, and what it waits for: nothing where it is a value, and else the cell that is due, with the rule that
-// applies there, if one does.
-fn work(cells: &[TermCell], at: usize) -> (usize, Option<(usize, Option<Rule>)>)
+// Whether a term goes on, and where.
+#[derive(Clone, Copy, Drop)]
+enum Progress {
+    // It is a value.
+    Value,
+    // The rule applies at the cell.
+    Step(Rule, usize),
+    // No rule applies at the cell that is due.
+    Stuck(usize),
+}
+
+impl Progress {
+    // By the rule that applies at the cell that is due, if one does.
+    fn due(cell: usize, rule: Option<Rule>) -> Progress
+        ensures { found_of result ≡ Some (cell, rule) }
+    {
+        match rule {
+            Some(rule) => Progress::Step(rule, cell),
+            None => Progress::Stuck(cell),
+        }
+    }
+
+    // Whether this term or the next goes on, this one first.
+    fn or(self, next: Progress) -> Progress
+        ensures { found_of result ≡ option_or (found_of self) (found_of next) }
+    {
+        match self {
+            Progress::Value => next,
+            due => due,
+        }
+    }
+}
+
+// One past the tree at `at`, and whether its term goes on.
+fn work(cells: &[TermCell], at: usize) -> (usize, Progress)
     requires { TermsStand cells.now × (at < length cells.now) }
-    ensures { result ≡ (at + size (term_at cells.now at), found at (erased (term_at cells.now at))) }
+    ensures end { result.0 ≡ at + size (term_at cells.now at) }
+    ensures progress { found_of result.1 ≡ found at (erased (term_at cells.now at)) }
 {
-    let part = cells.get(at + 1).copied().unwrap_or_default();
     match cells[at].op {
-        'l' => (past(cells, at), None),
+        'l' => (past(cells, at), Progress::Value),
         'a' => {
             let (middle, function) = work(cells, at + 1);
             let (end, argument) = work(cells, middle);
-            let value = cells.get(middle..).unwrap_or_default();
-            let due = argument
-                .or(function)
-                .or_else(|| Some((at, applied(part, value))));
-            (end, due)
+            match argument.or(function) {
+                Progress::Value => {
+                    let rule = applied(cells[at + 1], &cells[middle..]);
+                    (end, Progress::due(at, rule))
+                }
+                due => (end, due),
+            }
         }
         'p' => {
             let (middle, left) = work(cells, at + 1);
@@ -101,18 +138,25 @@ fn work(cells: &[TermCell], at: usize) -> (usize, Option<(usize, Option<Rule>)>)
         'd' => {
             let (middle, pair) = work(cells, at + 1);
             let end = past(cells, middle);
-            (end, pair.or_else(|| Some((at, opened(part)))))
+            match pair {
+                Progress::Value => (end, Progress::due(at, opened(cells[at + 1]))),
+                due => (end, due),
+            }
         }
         'i' => {
             let (middle, condition) = work(cells, at + 1);
             let end = past(cells, past(cells, middle));
-            (end, condition.or_else(|| Some((at, branched(part)))))
+            match condition {
+                Progress::Value => (end, Progress::due(at, branched(cells[at + 1]))),
+                due => (end, due),
+            }
         }
-        _ => (at + 1, None),
+        _ => (at + 1, Progress::Value),
     }
 }
 
-// Tests that the cells may be a running term: not too many, each with an argument that its letter allows, exactly one tree.
+// Tests that the cells may be a running term: not too many, each with an argument that its letter
+// allows, exactly one tree.
 fn test_cells(cells: &[TermCell]) -> Result<(), FindFault>
     ensures { result ≡ tested cells.now }
 {
@@ -123,14 +167,16 @@ fn test_cells(cells: &[TermCell]) -> Result<(), FindFault>
     FindReason::NotWhole.refuse_at(not_one_tree(cells))
 }
 
-/// The rule that applies to a running term and the cell it applies at, or nothing for a value; claims are disregarded.
+/// The rule that applies to a running term and the cell it applies at, or nothing for a value; claims
+/// are disregarded. A refusal is by the first row of the sheet that holds.
 pub fn find(cells: &[TermCell]) -> Result<Option<(Rule, usize)>, FindFault>
-    ensures { result ≡ answer cells.now }
+    ensures answer { result ≡ answer cells.now }
+    ensures first { Answers cells.now result }
 {
     test_cells(cells)?;
-    let (_, Some((cell, rule))) = work(cells, 0) else {
-        return Ok(None);
-    };
-    let rule = rule.ok_or(FindReason::NoRule.at(cell))?;
-    Ok(Some((rule, cell)))
+    match work(cells, 0).1 {
+        Progress::Value => Ok(None),
+        Progress::Step(rule, cell) => Ok(Some((rule, cell))),
+        Progress::Stuck(cell) => Err(FindReason::NoRule.at(cell)),
+    }
 }

@@ -7,6 +7,6 @@ mod promises;
 mod rules;
 
 pub use faults::{FindFault, FindReason};
-pub use finder::{find, past};
+pub use finder::find;
 pub use promises::{samples_are_answered, search_is_reduction, the_first_row_answers};
 pub use rules::Rule;

@@ -5,23 +5,17 @@ ghost use Rattle.finder.specs.Samples.{SamplesHold};
 ghost use Rattle.finder.specs.Sheet.{FirstRowAnswers};
 
 /// The finder answers nothing exactly for values, a rule and a cell exactly where the calculus makes a step, and else the cell where the search ends.
-pub fn search_is_reduction() -> u8
+pub fn search_is_reduction()
     ensures { SearchIsReduction }
-{
-    0
-}
+{}
 
 /// The finder refuses by the first row of its sheet that holds, at the cell that the row names, and
 /// answers a value or a step exactly where none holds.
-pub fn the_first_row_answers() -> u8
+pub fn the_first_row_answers()
     ensures { FirstRowAnswers }
-{
-    0
-}
+{}
 
 /// Short running terms get the answers that stand beside them.
-pub fn samples_are_answered() -> u8
+pub fn samples_are_answered()
     ensures { SamplesHold }
-{
-    0
-}
+{}

@@ -13,10 +13,12 @@ use Rattle.reader.specs.Cells.{is_kind, is_op}
 use Rattle.reader.specs.Lines.{Said, header, kind, term, counts, other, header_line, said}
 use Rattle.reader.specs.Pieces.{pieces}
 use Rattle.reader.specs.Reading.{Outcome, left, fault, start, line_read, after_line, reads, reading}
+use Rattle.reader.specs.Sheet.{Answers}
 use Rattle.reader.specs.Stored.{kind_line, op_line, end_line, cell_lines, written, KindKnown, OpKnown, Fitting, fronted, holding, Begins, Done, Bounded, Exact}
 use Rattle.reader.proofs.Back.{kinds_back}
 use Rattle.reader.proofs.Came.{place, Within, Came, Verdict, came}
 use Rattle.reader.proofs.Decimals.{number_is, decimal_number, decimal_lacks}
+use Rattle.reader.proofs.Sheet.{first_line_is}
 use Rattle.reader.proofs.Marks.{Lacks, glued, glue, glue_lines, line_pieces}
 use Rattle.reader.proofs.Spellings.{Spelled, spelled, no_ok, differs}
 use Rattle.reader.proofs.Tables.{puts, puts_front}
@@ -207,7 +209,7 @@ bounded text ts ms (Err f) us ns e = tt
 -- what `read` ensures, from what it leaves and what then stands in the tables
 pub ensured : (text : List ℕ) (ts : List TypeCell) (ms : List TermCell) {r : Result (ℕ × ℕ) ReadFault} {us vs : List TypeCell} {ns os : List TermCell}
     → left r us ns ≡ reading text ts ms → vs ≡ us → os ≡ ns
-    → record { answer : r ≡ (reading text ts ms).answer; types : vs ≡ (reading text ts ms).types; terms : os ≡ (reading text ts ms).terms; stored : Done text ts ms r vs os; within : Bounded r ts ms }
+    → record { answer : r ≡ (reading text ts ms).answer; types : vs ≡ (reading text ts ms).types; terms : os ≡ (reading text ts ms).terms; stored : Done text ts ms r vs os; within : Bounded r ts ms; first : Answers (pieces 10 text) (length ts) (length ms) r }
 ensured text ts ms {r} {us} {vs} {ns} {os} e u n =
     let f = ap (λ xs. left r xs os) u ∙ ap (left r us) n ∙ e in
     record {
@@ -216,6 +218,7 @@ ensured text ts ms {r} {us} {vs} {ns} {os} e u n =
       terms = ap (λ (o : Outcome). o.terms) f;
       stored = done text ts ms r vs os f;
       within = bounded text ts ms r vs os f;
+      first = first_line_is text ts ms r (ap (λ (o : Outcome). o.answer) f);
     }
 
 pub exact : Exact

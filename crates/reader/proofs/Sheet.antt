@@ -12,7 +12,7 @@ use Rattle.reader.specs.Lines.{Said, header, kind, term, counts, other, said, he
 use Rattle.reader.specs.Numbers.{number_in}
 use Rattle.reader.specs.Pieces.{pieces}
 use Rattle.reader.specs.Reading.{Place, Left, Outcome, start, to_kinds, with_kind, to_ops, with_op, allowed_line, line_in, line_read, fault, agreeing, closed, by_answer, reads, reading}
-use Rattle.reader.specs.Sheet.{Test, line_end, whole_header, form, numbers, room, agreement, reason_of, order_of, says_kind, says_term, says_counts, Ended, Rest, Earlier, before, Row, not_ended, no_header, line_after_the_end, bytes_after_the_end, no_form, kind_after_term, no_kind, no_op, no_number, no_count, no_room_for_type, no_room_for_term, other_counts, Before, IsFirst, FirstLineAnswers}
+use Rattle.reader.specs.Sheet.{Test, line_end, whole_header, form, numbers, room, agreement, reason_of, order_of, says_kind, says_term, says_counts, Ended, Rest, Earlier, before, Row, not_ended, no_header, line_after_the_end, bytes_after_the_end, no_form, kind_after_term, no_kind, no_op, no_number, no_count, no_room_for_type, no_room_for_term, other_counts, Before, IsFirst, Answers, FirstLineAnswers}
 use Rattle.reader.specs.declared.faults.ReadFault.{ReadFault}
 use Rattle.reader.specs.declared.faults.ReadReason.{ReadReason}
 use Rattle.reader.specs.declared.faults.ReadReason.TheVariants as reason
@@ -356,8 +356,7 @@ module _ (ls : List (List ℕ)) (types terms : ℕ) where
           by_form s e (place (section.End a b) n o) st (omega arith) (line_after_the_end l d (w.0, w.1, omega arith, w.5, ap says_counts w.6))
 
   abbrev Answered : Result (ℕ × ℕ) ReadFault → Type 0
-  Answered (Ok n) = (t : Test) (j : ℕ) → Line t j → ⊥
-  Answered (Err f) = IsFirst ls types terms f
+  Answered = Answers ls types terms
 
   -- What stands after the last byte 10.
   module _ (k : ℕ) (l : List ℕ) (r : Rest ls k l) where
@@ -574,3 +573,7 @@ first_line_answers = record {
   refused = λ text ts ms f. (is_answer text ts ms f, λ e. subst (Answered (pieces 10 text) (length ts) (length ms)) e (text_answered text ts ms));
   accepted = λ text ts ms. (some_answer text ts ms, λ (n, e). subst (Answered (pieces 10 text) (length ts) (length ms)) e (text_answered text ts ms));
 }
+
+-- an answer that is the reading's is the sheet's
+pub first_line_is : (text : List ℕ) (ts : List TypeCell) (ms : List TermCell) (x : Result (ℕ × ℕ) ReadFault) → x ≡ (reading text ts ms).answer → Answers (pieces 10 text) (length ts) (length ms) x
+first_line_is text ts ms x e = subst (Answers (pieces 10 text) (length ts) (length ms)) (sym e) (text_answered text ts ms)

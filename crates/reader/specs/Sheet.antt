@@ -1,6 +1,6 @@
 -- The sheet of the reader's refusals by lines, one constructor to a case, and the order in which
 -- they are tried.
-use Rattle.std.specs.Prelude.{◌≡◌, ℕ, ◌+◌, ◌<◌, ◌≤◌, Bool, true, false, ◌⊎◌, ◌↔◌, List, [], ◌∷◌, length, take, Some, None, Ok, Err, ◌≢◌}
+use Rattle.std.specs.Prelude.{◌≡◌, ℕ, ◌+◌, ◌<◌, ◌≤◌, Bool, true, false, ◌⊎◌, ◌↔◌, List, [], ◌∷◌, length, take, Some, None, Ok, Err, Result, ◌≢◌}
 use Rattle.std.specs.List.{count_by, slice_get}
 use Rattle.calculus.specs.declared.cells.TermCell.{TermCell}
 use Rattle.calculus.specs.declared.cells.TypeCell.{TypeCell}
@@ -114,6 +114,11 @@ IsFirst ls types terms f =
     (t : Test) × (k : ℕ) × Row ls types terms t k
     × (f ≡ record { reason = reason_of t; line = k + 1 })
     × ((u : Test) (j : ℕ) → Row ls types terms u j → Before u j t k → ⊥)
+
+-- the answer that the sheet gives: a fault where it is the first line's, and none where a row holds
+abbrev pub Answers : List (List ℕ) → ℕ → ℕ → Result (ℕ × ℕ) ReadFault → Type 0
+Answers ls types terms (Ok n) = (t : Test) (k : ℕ) → Row ls types terms t k → ⊥
+Answers ls types terms (Err f) = IsFirst ls types terms f
 
 -- A text is refused at the first line that is, for the first test there, and accepted exactly where
 -- none is.

@@ -4,24 +4,19 @@ ghost use Rattle.reader.specs.Samples.{SamplesHold};
 ghost use Rattle.reader.specs.Sheet.{FirstLineAnswers};
 ghost use Rattle.reader.specs.Stored.{Exact};
 
-/// A text is accepted exactly if it is that of a program that fits, and what is written of cells is read back to them.
-pub fn reading_is_exact() -> u8
+/// A text is accepted exactly if it is that of a program that fits, and what is written of cells is
+/// read back to them.
+pub fn reading_is_exact()
     ensures { Exact }
-{
-    0
-}
+{}
 
 /// A text is refused at the first line that a row of the sheet refuses, for the first such test of
 /// that line, and is accepted exactly where no row holds.
-pub fn the_first_line_answers() -> u8
+pub fn the_first_line_answers()
     ensures { FirstLineAnswers }
-{
-    0
-}
+{}
 
 /// Sample texts get the answers that stand beside them.
-pub fn samples_are_judged() -> u8
+pub fn samples_are_judged()
     ensures { SamplesHold }
-{
-    0
-}
+{}

@@ -1,8 +1,10 @@
 //! The reader: line after line, from the header to the end line.
 
-ghost use Rattle.std.specs.Prelude.{◌≡◌, ◌≤◌};
+ghost use Rattle.std.specs.Prelude.{◌≡◌, ◌≤◌, length};
+ghost use Rattle.reader.specs.Pieces.{pieces};
 ghost use Rattle.reader.specs.Reading.{closed, reading};
 ghost use Rattle.reader.specs.Places.{place_after, line_after, place_of};
+ghost use Rattle.reader.specs.Sheet.{Answers};
 ghost use Rattle.reader.specs.Stored.{Done, Bounded};
 
 use crate::cells::{Front, term_cell, type_cell};
@@ -63,7 +65,8 @@ fn close(
 }
 
 /// Reads a stored program to the front of two tables, and answers how many cells of each there are.
-/// A refused read leaves the cells of the lines before the one at fault.
+/// A refused read leaves the cells of the lines before the one at fault, and is of the first line that
+/// a row of the sheet refuses.
 pub fn read(
     text: &[u8],
     types: &mut [TypeCell],
@@ -74,6 +77,7 @@ pub fn read(
     ensures terms { terms.new ≡ (reading text.now types.old terms.old).terms }
     ensures stored { Done text.now types.old terms.old result types.new terms.new }
     ensures within { Bounded result types.old terms.old }
+    ensures first { Answers (pieces 10 text.now) (length types.old) (length terms.old) result }
 {
     let mut types = Types::new(types);
     let mut terms = Terms::new(terms);

@@ -74,8 +74,6 @@ pub fn first_failing<T: Copy, F: Fn(T) -> bool>(cells: &[T], passes: F) -> Optio
 }
 
 /// How far trees reach follows the same laws for cells of every kind.
-pub fn reach_is_lawful<T: Cell>() -> u8
+pub fn reach_is_lawful<T: Cell>()
     ensures { ReachLaws T.arity }
-{
-    0
-}
+{}
