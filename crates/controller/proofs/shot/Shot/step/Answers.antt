@@ -17,5 +17,5 @@ returns-clause-state g c =
     let cs = c.args.self.now.cells.items in
     let r = told kind c.args.register.now in
     let whole = ap (λ v. once_ready v (stepped kind.changes r cs)) (sym (ok_unit c.ready.result c.in_ok-map_err.ensures.variant ∙ c.ready.ensures))
-    ∙ ap (taken kind.changes r cs) (sym (c.find-found.ensures ∙ ap answer c.deref.ensures.0)) in
+    ∙ ap (taken kind.changes r cs) (sym (c.find-found.ensures.answer ∙ ap answer c.deref.ensures.0)) in
     subst (λ v. StepLeaves kind v c.args.self.now c.take_step.new.self c.args.register.now c.take_step.new.register c.args.work.now c.take_step.new.work) (sym whole) c.take_step.ensures.state
