@@ -3,13 +3,20 @@
 use crate::programs::{
     Program, Random, applied, conditions, copies, damaged, damaged_cells, running, wide_types,
 };
-use crate::proved::{BLANK, IDLE, Node, Verdict};
-use crate::{plain, proved};
+use crate::proved::{BLANK, IDLE, NOTHING, Node, PREPARE, READ, Verdict, ZERO};
+use crate::{plain, plain_timed, proved, timed};
 
-/// How many answers were compared, and how many differed.
+/// Every handle is below this.
+const HANDLES: u64 = 32;
+
+/// So often the calls that are timed are made when they are compared only.
+const TIMES: u64 = 2;
+
+/// How many answers and sums of timed calls were compared, and how many differed.
 #[derive(Default)]
 pub struct Tally {
     pub answers: u64,
+    pub sums: u64,
     pub differences: u64,
     pub by_number: std::collections::BTreeMap<(&'static str, u16), u64>,
 }
@@ -30,6 +37,21 @@ impl Tally {
         }
     }
 
+    /// Compares the sums that a timed call of each answers.
+    pub fn timed(&mut self, what: &'static str, proved: u64, plain: u64) {
+        self.sums += 1;
+        if proved != plain {
+            self.differences += 1;
+            eprintln!("{what}, timed, differs: proved {proved}, twin {plain}");
+        }
+    }
+
+    /// Tells that more calls of this took no more time.
+    pub fn left_out(&mut self, what: &'static str) {
+        self.differences += 1;
+        eprintln!("{what}: twice the calls take no longer, so that some are left out");
+    }
+
     /// Compares the reads of a text, and the tables after them; hands on the program, if it is one.
     pub fn read(&mut self, text: &[u8]) -> Option<Program> {
         let (mut letters, mut nodes) = ([0; 300], [BLANK; 600]);
@@ -42,9 +64,20 @@ impl Tally {
             (verdict, &letters[..], &nodes[..]),
             (plain, &plain_letters[..], &plain_nodes[..]),
         );
+        self.timed(
+            "read",
+            timed::read(text, TIMES),
+            plain_timed::read(text, TIMES),
+        );
+        let outcomes = outcomes();
+        self.timed(
+            "shot",
+            timed::shot(text, &outcomes, TIMES),
+            plain_timed::shot(text, &outcomes, TIMES),
+        );
         (verdict.number == 0).then(|| Program {
-            letters: letters[..verdict.first as usize].to_vec(),
-            nodes: nodes[..verdict.second as usize].to_vec(),
+            letters: letters[..verdict.type_cells as usize].to_vec(),
+            nodes: nodes[..verdict.term_cells as usize].to_vec(),
         })
     }
 
@@ -58,11 +91,22 @@ impl Tally {
             verdict,
             plain::check(letters, nodes),
         );
-        let outcomes: Vec<u8> = (0..64).map(|k| k % 2).collect();
+        let (types, terms) = (plain::types_of(letters), plain::terms_of(nodes));
+        self.timed(
+            "check",
+            timed::check(letters, nodes, TIMES),
+            plain_timed::check(&types, &terms, TIMES),
+        );
+        let outcomes = outcomes();
         for budget in [1000, 3, 0] {
             let proved = run(proved::run, program, &outcomes, budget);
             let plain = run(plain::run, program, &outcomes, budget);
             self.add("run", proved.0.number, proved, plain);
+            self.timed(
+                "run",
+                timed::run(letters, nodes, &outcomes, budget, TIMES),
+                plain_timed::run(&types, &terms, &outcomes, budget, TIMES),
+            );
         }
         if verdict.number == 0 {
             self.terms(nodes);
@@ -75,17 +119,28 @@ impl Tally {
         for step in 0..20 {
             let verdict = proved::find(&nodes);
             self.add("find", verdict.number, verdict, plain::find(&nodes));
+            let terms = plain::terms_of(&nodes);
+            self.timed(
+                "find",
+                timed::find(&nodes, TIMES),
+                plain_timed::find(&terms, TIMES),
+            );
+            self.timed(
+                "next",
+                timed::next(&nodes, TIMES),
+                plain_timed::next(&terms, TIMES),
+            );
             let mut last = (refused(), vec![]);
-            for answer in [256, 257 + step % 2, step % 8] {
+            for answer in [NOTHING, ZERO + step % 2, step % 8] {
                 let (mut to, mut plain_to) = (vec![BLANK; 1024], vec![BLANK; 1024]);
                 let proved = proved::next(&nodes, answer, &mut to);
                 let plain = plain::next(&nodes, answer, &mut plain_to);
                 self.add("next", proved.number, (proved, &to), (plain, &plain_to));
-                let rule = proved::find(&nodes).first;
-                let fits = matches!(
-                    (rule, answer),
-                    (5, 0..32) | (6, 257..=258) | (0..=4 | 7, 256)
-                );
+                let fits = match verdict.rule {
+                    PREPARE => answer < HANDLES,
+                    READ => answer >= ZERO,
+                    _ => answer == NOTHING,
+                };
                 if fits {
                     last = (proved, to);
                 }
@@ -93,17 +148,20 @@ impl Tally {
             if last.0.number != 0 || verdict.number != 0 {
                 return;
             }
-            nodes = last.1[..last.0.first as usize].to_vec();
+            nodes = last.1[..last.0.term_cells as usize].to_vec();
         }
     }
+}
+
+/// The outcomes of a tape: pulse k reads k mod 2.
+pub fn outcomes() -> Vec<u8> {
+    (0..64).map(|k| k % 2).collect()
 }
 
 fn refused() -> Verdict {
     Verdict {
         number: 1,
-        place: 0,
-        first: 0,
-        second: 0,
+        ..Verdict::default()
     }
 }
 

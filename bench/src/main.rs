@@ -5,10 +5,13 @@
 mod compare;
 mod measure;
 mod plain;
+mod plain_timed;
 mod programs;
 mod proved;
+mod timed;
 mod twin;
 
+use compare::Tally;
 use measure::{both, one};
 use plain::{terms_of, types_of};
 use programs::{Program, applied, conditions, copies, wide_types};
@@ -62,19 +65,33 @@ fn copy_time(cells: usize) -> f64 {
     })
 }
 
-fn read_row(what: &'static str, text: &[u8]) -> Row {
-    let (proved, plain) = both(&mut |times| proved::read_often(text, times), &mut |times| {
-        plain::read_often(text, times)
-    });
+fn row(
+    tally: &mut Tally,
+    what: &'static str,
+    size: usize,
+    proved: measure::Timed,
+    plain: measure::Timed,
+) -> Row {
+    let (proved, plain) = both(tally, what, proved, plain);
     Row {
         what,
-        size: text.len(),
+        size,
         proved,
         plain,
     }
 }
 
-fn check_row(what: &'static str, program: &Program) -> Row {
+fn read_row(tally: &mut Tally, what: &'static str, text: &[u8]) -> Row {
+    row(
+        tally,
+        what,
+        text.len(),
+        &mut |times| timed::read(text, times),
+        &mut |times| plain_timed::read(text, times),
+    )
+}
+
+fn check_row(tally: &mut Tally, what: &'static str, program: &Program) -> Row {
     let Program { letters, nodes } = program;
     assert_eq!(
         proved::check(letters, nodes).number,
@@ -82,88 +99,79 @@ fn check_row(what: &'static str, program: &Program) -> Row {
         "{what} is accepted"
     );
     let (types, terms) = (types_of(letters), terms_of(nodes));
-    let (proved, plain) = both(
-        &mut |times| proved::check_often(letters, nodes, times),
-        &mut |times| plain::check_often(&types, &terms, times),
-    );
-    Row {
+    row(
+        tally,
         what,
-        size: nodes.len(),
-        proved,
-        plain,
-    }
+        nodes.len(),
+        &mut |times| timed::check(letters, nodes, times),
+        &mut |times| plain_timed::check(&types, &terms, times),
+    )
 }
 
-fn find_row(what: &'static str, nodes: &[Node]) -> Row {
+fn find_row(tally: &mut Tally, what: &'static str, nodes: &[Node]) -> Row {
     let terms = terms_of(nodes);
-    let (proved, plain) = both(
-        &mut |times| proved::find_often(nodes, times),
-        &mut |times| plain::find_often(&terms, times),
-    );
-    Row {
+    row(
+        tally,
         what,
-        size: nodes.len(),
-        proved,
-        plain,
-    }
+        nodes.len(),
+        &mut |times| timed::find(nodes, times),
+        &mut |times| plain_timed::find(&terms, times),
+    )
 }
 
-fn next_row(what: &'static str, nodes: &[Node]) -> Row {
+fn next_row(tally: &mut Tally, what: &'static str, nodes: &[Node]) -> Row {
     let terms = terms_of(nodes);
-    let (proved, plain) = both(
-        &mut |times| proved::next_often(nodes, times),
-        &mut |times| plain::next_often(&terms, times),
-    );
-    Row {
+    row(
+        tally,
         what,
-        size: nodes.len(),
-        proved,
-        plain,
-    }
+        nodes.len(),
+        &mut |times| timed::next(nodes, times),
+        &mut |times| plain_timed::next(&terms, times),
+    )
 }
 
 /// A step of the controller: the run up to the end of the chain less the run of one step, by the steps between.
-fn step_row(cells: usize, steps: usize) -> Row {
+fn step_row(tally: &mut Tally, cells: usize, steps: usize) -> Row {
+    let what = "step of the controller";
     let program = copies((cells - 3 * steps - 10) / 9, steps);
     let Program { letters, nodes } = &program;
     let (types, terms) = (types_of(letters), terms_of(nodes));
     let outcomes = [0; 64];
-    let run = |budget: u64| {
+    let mut run = |budget: u64| {
         both(
-            &mut |times| proved::run_often(letters, nodes, &outcomes, budget, times),
-            &mut |times| plain::run_often(&types, &terms, &outcomes, budget, times),
+            tally,
+            what,
+            &mut |times| timed::run(letters, nodes, &outcomes, budget, times),
+            &mut |times| plain_timed::run(&types, &terms, &outcomes, budget, times),
         )
     };
     let (first, all) = (run(1), run(1 + steps as u64));
     // The mean size of the terms from which these steps start.
     let size = 9 * ((cells - 3 * steps - 10) / 9) + 10 + 3 * steps - 3 * (steps - 1) / 2;
     Row {
-        what: "step of the controller",
+        what,
         size,
         proved: (all.0 - first.0) / steps as f64,
         plain: (all.1 - first.1) / steps as f64,
     }
 }
 
-fn shot_row(what: &'static str, text: &[u8]) -> Row {
-    let outcomes: Vec<u8> = (0..64).map(|k| k % 2).collect();
-    let (proved, plain) = both(
-        &mut |times| proved::shot_often(text, &outcomes, times),
-        &mut |times| plain::shot_often(text, &outcomes, times),
-    );
-    Row {
+fn shot_row(tally: &mut Tally, what: &'static str, text: &[u8]) -> Row {
+    let outcomes = compare::outcomes();
+    row(
+        tally,
         what,
-        size: text.len(),
-        proved,
-        plain,
-    }
+        text.len(),
+        &mut |times| timed::shot(text, &outcomes, times),
+        &mut |times| plain_timed::shot(text, &outcomes, times),
+    )
 }
 
-fn steps_table() {
+fn steps_table(tally: &mut Tally) {
     heading("steps, by the cells of the term; and in copies of the term's memory");
     let mut before: Option<Row> = None;
     for (cells, steps) in [(64, 4), (128, 8), (256, 16), (512, 16), (1024, 16)] {
-        let row = step_row(cells, steps);
+        let row = step_row(tally, cells, steps);
         let copy = copy_time(row.size);
         let more = format!(
             "{:5.1} copies (twin {:5.1}); {:9.0} steps a second (twin {:9.0})",
@@ -184,7 +192,7 @@ fn steps_table() {
     ] {
         let mut before: Option<Row> = None;
         for cells in [64, 128, 256, 512, 1024] {
-            let row = next_row(what, &term(cells));
+            let row = next_row(tally, what, &term(cells));
             let copy = copy_time(row.size);
             let more = format!(
                 "{:5.1} copies (twin {:5.1})",
@@ -204,7 +212,7 @@ fn main() {
         .iter()
         .map(|name| std::fs::read(name).expect("the example can be read"))
         .collect();
-    let tally = compare::compare(&examples);
+    let tally = &mut compare::compare(&examples);
     println!(
         "{} answers compared, {} differences",
         tally.answers, tally.differences
@@ -215,35 +223,41 @@ fn main() {
     println!();
 
     heading("read, by bytes of the text");
-    print_all(&[64, 128, 256, 512].map(|n| read_row("conditions", &conditions(n / 3).text())));
     print_all(
-        &[64, 128, 256, 512].map(|n| read_row("wide types", &wide_types(n / 2, n / 3).text())),
+        &[64, 128, 256, 512].map(|n| read_row(tally, "conditions", &conditions(n / 3).text())),
+    );
+    print_all(
+        &[64, 128, 256, 512]
+            .map(|n| read_row(tally, "wide types", &wide_types(n / 2, n / 3).text())),
     );
 
     heading("check, by term cells");
     print_all(
-        &[64, 128, 256, 512].map(|n| check_row("conditions, 1 type cell", &conditions(n / 3))),
-    );
-    print_all(
-        &[64, 128, 256, 512].map(|n| check_row("256 type cells", &wide_types(256, (n - 2) / 3))),
+        &[64, 128, 256, 512]
+            .map(|n| check_row(tally, "conditions, 1 type cell", &conditions(n / 3))),
     );
     print_all(
         &[64, 128, 256, 512]
-            .map(|n| check_row("functions, 41 type cells", &copies((n - 57) / 3, 16))),
+            .map(|n| check_row(tally, "256 type cells", &wide_types(256, (n - 2) / 3))),
+    );
+    print_all(
+        &[64, 128, 256, 512]
+            .map(|n| check_row(tally, "functions, 41 type cells", &copies((n - 57) / 3, 16))),
     );
 
     heading("find, by cells of the running term");
-    print_all(&[64, 128, 256, 512, 1024].map(|n| find_row("conditions", &conditions(n / 3).nodes)));
     print_all(
-        &[64, 128, 256, 512, 1024].map(|n| find_row("function applied", &applied((n - 4) / 2))),
+        &[64, 128, 256, 512, 1024].map(|n| find_row(tally, "conditions", &conditions(n / 3).nodes)),
+    );
+    print_all(
+        &[64, 128, 256, 512, 1024]
+            .map(|n| find_row(tally, "function applied", &applied((n - 4) / 2))),
     );
 
-    steps_table();
+    steps_table(tally);
 
     heading("whole shots, by bytes of the text");
-    print_all(
-        &[12, 25, 50, 100].map(|n| shot_row("functions", &copies(n, 16).text())),
-    );
+    print_all(&[12, 25, 50, 100].map(|n| shot_row(tally, "functions", &copies(n, 16).text())));
     for (name, text) in names.iter().zip(&examples) {
         for (file, what) in [
             ("teleport.ql", "teleport"),
@@ -252,10 +266,14 @@ fn main() {
             ("last_step.ql", "1,000 steps"),
         ] {
             if name.ends_with(file) && !name.ends_with(&format!("_{file}")) {
-                print(&shot_row(what, text), None, "");
+                print(&shot_row(tally, what, text), None, "");
             }
         }
     }
+    println!(
+        "\n{} sums of timed calls compared, {} differences in all",
+        tally.sums, tally.differences
+    );
     if tally.differences > 0 {
         std::process::exit(1);
     }

@@ -1,39 +1,31 @@
 //! The twin behind the same calls as the proved library.
 
-use crate::proved::{Node, Pulse, Verdict};
+use crate::proved::{NOTHING, Node, ONE, Pulse, Verdict, ZERO};
 use crate::twin::calculus::*;
 use crate::twin::checker::{Accepted, check as check_tables};
 use crate::twin::controller::{Controller, Refusal, Stop};
 use crate::twin::reader::read as read_text;
 use crate::twin::registers::{Entry, Tape};
-use crate::twin::stepper::{Answer, Rule, find as find_rule, next as next_term, put_next};
-use std::hint::black_box;
+use crate::twin::stepper::{Answer, Rule, find as find_rule, next as next_term};
 
-const CAPACITY: usize = 8;
-const PULSES: usize = 64;
-const BUDGET: u64 = 1000;
-const BLANK_TERM: TermCell = TermCell {
+pub const CAPACITY: usize = 8;
+pub const PULSES: usize = 64;
+pub const BLANK_TERM: TermCell = TermCell {
     op: '\0',
     argument: 0,
     claim: 0,
 };
-const BLANK_TYPE: TypeCell = TypeCell { kind: '\0' };
+pub const BLANK_TYPE: TypeCell = TypeCell { kind: '\0' };
+
+fn accepted() -> Verdict {
+    Verdict::default()
+}
 
 fn refused(number: u16, place: u64) -> Verdict {
     Verdict {
         number,
         place,
-        first: 0,
-        second: 0,
-    }
-}
-
-fn accepted(first: u64, second: u64) -> Verdict {
-    Verdict {
-        number: 0,
-        place: 0,
-        first,
-        second,
+        ..accepted()
     }
 }
 
@@ -86,43 +78,35 @@ fn pulse_of(entry: Entry) -> Pulse {
 pub fn read(text: &[u8], letters: &mut [u32], nodes: &mut [Node]) -> Verdict {
     let mut types = [BLANK_TYPE; MOST_TYPE_CELLS];
     let mut terms = [BLANK_TERM; MOST_TERM_CELLS];
-    let answer = read_text(text, &mut types, &mut terms);
+    let verdict = read_verdict(text, &mut types, &mut terms);
     give_types(&types, letters);
     give_terms(&terms, nodes);
-    match answer {
-        Ok((kinds, ops)) => accepted(kinds as u64, ops as u64),
+    verdict
+}
+
+pub fn read_verdict(text: &[u8], types: &mut [TypeCell], terms: &mut [TermCell]) -> Verdict {
+    match read_text(text, types, terms) {
+        Ok((kinds, ops)) => Verdict {
+            type_cells: kinds as u64,
+            term_cells: ops as u64,
+            ..accepted()
+        },
         Err(fault) => refused(fault.number(), fault.line as u64),
     }
 }
 
-#[inline(never)]
-pub fn read_often(text: &[u8], times: u64) -> u64 {
-    let mut types = [BLANK_TYPE; MOST_TYPE_CELLS];
-    let mut terms = [BLANK_TERM; MOST_TERM_CELLS];
-    let mut passed = 0;
-    for _ in 0..times {
-        passed += read_text(black_box(text), &mut types, &mut terms).is_ok() as u64;
-    }
-    passed
+pub fn check(letters: &[u32], nodes: &[Node]) -> Verdict {
+    check_verdict(&types_of(letters), &terms_of(nodes))
 }
 
-pub fn check(letters: &[u32], nodes: &[Node]) -> Verdict {
-    match check_tables(&types_of(letters), &terms_of(nodes)) {
-        Ok(()) => accepted(0, 0),
+pub fn check_verdict(types: &[TypeCell], terms: &[TermCell]) -> Verdict {
+    match check_tables(types, terms) {
+        Ok(()) => accepted(),
         Err(fault) => refused(fault.number(), fault.cell() as u64),
     }
 }
 
-#[inline(never)]
-pub fn check_often(types: &[TypeCell], terms: &[TermCell], times: u64) -> u64 {
-    let mut passed = 0;
-    for _ in 0..times {
-        passed += check_tables(black_box(types), black_box(terms)).is_ok() as u64;
-    }
-    passed
-}
-
-fn rule_number(rule: Rule) -> u64 {
+fn rule_number(rule: Rule) -> u16 {
     match rule {
         Rule::Function => 1,
         Rule::Pair => 2,
@@ -136,65 +120,55 @@ fn rule_number(rule: Rule) -> u64 {
 
 fn answer_of(number: u64) -> Answer {
     match number {
-        257 => Answer::Outcome(false),
-        258 => Answer::Outcome(true),
-        _ if number < 256 => Answer::Handle(number as u8),
+        ZERO => Answer::Outcome(false),
+        ONE => Answer::Outcome(true),
+        _ if number < NOTHING => Answer::Handle(number as u8),
         _ => Answer::Nothing,
     }
 }
 
 pub fn find(nodes: &[Node]) -> Verdict {
-    match find_rule(&terms_of(nodes)) {
-        Ok(None) => accepted(0, 0),
-        Ok(Some((rule, at))) => accepted(rule_number(rule), at as u64),
+    find_verdict(&terms_of(nodes))
+}
+
+fn rule_at(rule: Rule, at: usize) -> Verdict {
+    Verdict {
+        rule: rule_number(rule),
+        place: at as u64,
+        ..accepted()
+    }
+}
+
+pub fn find_verdict(cells: &[TermCell]) -> Verdict {
+    match find_rule(cells) {
+        Ok(None) => accepted(),
+        Ok(Some((rule, at))) => rule_at(rule, at),
         Err(fault) => refused(fault.number(), fault.cell() as u64),
     }
 }
 
-#[inline(never)]
-pub fn find_often(cells: &[TermCell], times: u64) -> u64 {
-    let mut found = 0;
-    for _ in 0..times {
-        found += matches!(find_rule(black_box(cells)), Ok(Some(_))) as u64;
+pub fn next(nodes: &[Node], answer: u64, to: &mut [Node]) -> Verdict {
+    let mut work = [BLANK_TERM; MOST_RUNNING_CELLS];
+    let verdict = step_verdict(&terms_of(nodes), answer_of(answer), &mut work);
+    if verdict.number == 0 {
+        give_terms(&work, to);
     }
-    found
+    verdict
 }
 
-pub fn next(nodes: &[Node], answer: u64, to: &mut [Node]) -> Verdict {
-    let cells = terms_of(nodes);
-    let mut work = [BLANK_TERM; MOST_RUNNING_CELLS];
-    let (rule, at) = match find_rule(&cells) {
+pub fn step_verdict(cells: &[TermCell], answer: Answer, work: &mut [TermCell]) -> Verdict {
+    let (rule, at) = match find_rule(cells) {
         Ok(Some(found)) => found,
         Ok(None) => return refused(35, 0),
         Err(fault) => return refused(fault.number(), fault.cell() as u64),
     };
-    match next_term(&cells, rule, at, answer_of(answer), &mut work) {
-        Some(count) => {
-            give_terms(&work, to);
-            accepted(count as u64, at as u64)
-        }
+    match next_term(cells, rule, at, answer, work) {
+        Some(count) => Verdict {
+            term_cells: count as u64,
+            ..rule_at(rule, at)
+        },
         None => refused(37, at as u64),
     }
-}
-
-fn steps(cells: &[TermCell], work: &mut [TermCell]) -> bool {
-    match find_rule(cells) {
-        Ok(Some((rule, at))) => {
-            next_term(cells, rule, at, Answer::Nothing, &mut []).is_some()
-                && put_next(cells, rule, at, Answer::Nothing, work).is_some()
-        }
-        _ => false,
-    }
-}
-
-#[inline(never)]
-pub fn next_often(cells: &[TermCell], times: u64) -> u64 {
-    let mut work = [BLANK_TERM; MOST_RUNNING_CELLS];
-    let mut made = 0;
-    for _ in 0..times {
-        made += steps(black_box(cells), &mut work) as u64;
-    }
-    made
 }
 
 fn refused_call(refusal: Refusal) -> Verdict {
@@ -208,14 +182,12 @@ fn ran(steps: u64, stop: Stop) -> Verdict {
         Stop::Refused { fault, steps } => (fault.number(), steps),
     };
     Verdict {
-        number,
-        place,
-        first: steps,
-        second: 0,
+        steps,
+        ..refused(number, place)
     }
 }
 
-fn load_and_run(
+pub fn load_and_run(
     controller: &mut Controller<Tape>,
     program: &Accepted,
     budget: u64,
@@ -240,10 +212,23 @@ pub fn run(
     pulses: &mut [Pulse],
 ) -> Verdict {
     let (types, terms) = (types_of(letters), terms_of(nodes));
-    if let Err(fault) = check_tables(&types, &terms) {
-        return refused(fault.number(), fault.cell() as u64);
+    run_verdict(&types, &terms, outcomes, budget, value, kinds, pulses)
+}
+
+pub fn run_verdict(
+    types: &[TypeCell],
+    terms: &[TermCell],
+    outcomes: &[u8],
+    budget: u64,
+    value: &mut [Node],
+    kinds: &mut [u32],
+    pulses: &mut [Pulse],
+) -> Verdict {
+    let checked = check_verdict(types, terms);
+    if checked.number > 0 {
+        return checked;
     }
-    let program = Accepted::new(&types, &terms);
+    let program = Accepted::new(types, terms);
     let mut work = [BLANK_TERM; MOST_RUNNING_CELLS];
     let mut root = [BLANK_TYPE; MOST_TYPE_CELLS];
     let mut journal = [Entry::Empty; PULSES];
@@ -252,74 +237,11 @@ pub fn run(
     for (pulse, entry) in pulses.iter_mut().zip(controller.register().journal()) {
         *pulse = pulse_of(*entry);
     }
-    if let Ok((cells, _)) = controller.collect(&mut work, &mut root) {
-        verdict.second = cells as u64;
+    if let Ok((cells, kind_cells)) = controller.collect(&mut work, &mut root) {
+        verdict.term_cells = cells as u64;
+        verdict.type_cells = kind_cells as u64;
     }
     give_terms(&work, value);
     give_types(&root, kinds);
     verdict
-}
-
-#[inline(never)]
-pub fn run_often(
-    types: &[TypeCell],
-    terms: &[TermCell],
-    outcomes: &[u8],
-    budget: u64,
-    times: u64,
-) -> u64 {
-    if check_tables(types, terms).is_err() {
-        return 0;
-    }
-    let program = Accepted::new(types, terms);
-    let mut work = [BLANK_TERM; MOST_RUNNING_CELLS];
-    let mut journal = [Entry::Empty; PULSES];
-    let mut steps: u64 = 0;
-    for _ in 0..times {
-        let mut controller = Controller::new(Tape::new(CAPACITY, outcomes, &mut journal));
-        let verdict = load_and_run(&mut controller, black_box(&program), budget, &mut work);
-        steps = steps.saturating_add(verdict.first);
-    }
-    steps
-}
-
-fn shot(
-    text: &[u8],
-    outcomes: &[u8],
-    types: &mut [TypeCell],
-    terms: &mut [TermCell],
-    work: &mut [TermCell],
-) -> u64 {
-    let Ok((type_count, term_count)) = read_text(text, types, terms) else {
-        return 0;
-    };
-    let types = &types[0..type_count];
-    let terms = &terms[0..term_count];
-    if check_tables(types, terms).is_err() {
-        return 0;
-    }
-    let mut kinds = [BLANK_TYPE; MOST_TYPE_CELLS];
-    let mut journal = [Entry::Empty; PULSES];
-    let mut controller = Controller::new(Tape::new(CAPACITY, outcomes, &mut journal));
-    let verdict = load_and_run(&mut controller, &Accepted::new(types, terms), BUDGET, work);
-    let _ = controller.collect(work, &mut kinds);
-    verdict.first
-}
-
-#[inline(never)]
-pub fn shot_often(text: &[u8], outcomes: &[u8], times: u64) -> u64 {
-    let mut types = [BLANK_TYPE; MOST_TYPE_CELLS];
-    let mut terms = [BLANK_TERM; MOST_TERM_CELLS];
-    let mut work = [BLANK_TERM; MOST_RUNNING_CELLS];
-    let mut steps: u64 = 0;
-    for _ in 0..times {
-        steps = steps.saturating_add(shot(
-            black_box(text),
-            outcomes,
-            &mut types,
-            &mut terms,
-            &mut work,
-        ));
-    }
-    steps
 }

@@ -9,7 +9,7 @@ pub struct Node {
     pub claim: u16,
 }
 
-/// What a pulse did: 0 nothing, 1 a preparation, 2 a gate, 3 a read; then the gate's number, the bit or the outcome; then handles.
+/// What a pulse did: 0 nothing, 1 a preparation, 2 a gate, 3 a read; then the bit, the gate's number or the outcome; then handles.
 #[repr(C)]
 #[derive(Clone, Copy, PartialEq, Eq, Debug)]
 pub struct Pulse {
@@ -18,15 +18,16 @@ pub struct Pulse {
     pub on: [u8; 3],
 }
 
-/// The number of the fault, 0 for none, or 1 where a run spent its budget; where the fault is, or the
-/// steps made before a refused step; and two numbers of an accepted call, or the steps of a run, however it stopped.
+/// The answer of a call: what each number is for which call, `ql.h` tells.
 #[repr(C)]
-#[derive(Clone, Copy, PartialEq, Eq, Debug)]
+#[derive(Clone, Copy, PartialEq, Eq, Debug, Default)]
 pub struct Verdict {
     pub number: u16,
+    pub rule: u16,
     pub place: u64,
-    pub first: u64,
-    pub second: u64,
+    pub steps: u64,
+    pub type_cells: u64,
+    pub term_cells: u64,
 }
 
 /// No letter at all.
@@ -43,6 +44,15 @@ pub const IDLE: Pulse = Pulse {
     on: [0; 3],
 };
 
+/// The register's answer to a rule that asks nothing of it, and the two outcomes; a number below these is a handle.
+pub const NOTHING: u64 = 256;
+pub const ZERO: u64 = 257;
+pub const ONE: u64 = 258;
+
+/// The rules for which the register prepares and reads.
+pub const PREPARE: u16 = 5;
+pub const READ: u16 = 6;
+
 // A slice goes over as a pointer and a length.
 #[link(name = "exported", kind = "static")]
 unsafe extern "C" {
@@ -54,22 +64,13 @@ unsafe extern "C" {
         nodes: *mut Node,
         nodes_len: usize,
     ) -> Verdict;
-    fn ql_read_often(text: *const u8, text_len: usize, times: u64) -> u64;
     fn ql_check(
         letters: *const u32,
         letters_len: usize,
         nodes: *const Node,
         nodes_len: usize,
     ) -> Verdict;
-    fn ql_check_often(
-        letters: *const u32,
-        letters_len: usize,
-        nodes: *const Node,
-        nodes_len: usize,
-        times: u64,
-    ) -> u64;
     fn ql_find(nodes: *const Node, nodes_len: usize) -> Verdict;
-    fn ql_find_often(nodes: *const Node, nodes_len: usize, times: u64) -> u64;
     fn ql_next(
         nodes: *const Node,
         nodes_len: usize,
@@ -77,7 +78,6 @@ unsafe extern "C" {
         to: *mut Node,
         to_len: usize,
     ) -> Verdict;
-    fn ql_next_often(nodes: *const Node, nodes_len: usize, times: u64) -> u64;
     fn ql_run(
         letters: *const u32,
         letters_len: usize,
@@ -93,23 +93,6 @@ unsafe extern "C" {
         pulses: *mut Pulse,
         pulses_len: usize,
     ) -> Verdict;
-    fn ql_run_often(
-        letters: *const u32,
-        letters_len: usize,
-        nodes: *const Node,
-        nodes_len: usize,
-        outcomes: *const u8,
-        outcomes_len: usize,
-        budget: u64,
-        times: u64,
-    ) -> u64;
-    fn ql_shot_often(
-        text: *const u8,
-        text_len: usize,
-        outcomes: *const u8,
-        outcomes_len: usize,
-        times: u64,
-    ) -> u64;
 }
 
 pub fn read(text: &[u8], letters: &mut [u32], nodes: &mut [Node]) -> Verdict {
@@ -125,32 +108,12 @@ pub fn read(text: &[u8], letters: &mut [u32], nodes: &mut [Node]) -> Verdict {
     }
 }
 
-pub fn read_often(text: &[u8], times: u64) -> u64 {
-    unsafe { ql_read_often(text.as_ptr(), text.len(), times) }
-}
-
 pub fn check(letters: &[u32], nodes: &[Node]) -> Verdict {
     unsafe { ql_check(letters.as_ptr(), letters.len(), nodes.as_ptr(), nodes.len()) }
 }
 
-pub fn check_often(letters: &[u32], nodes: &[Node], times: u64) -> u64 {
-    unsafe {
-        ql_check_often(
-            letters.as_ptr(),
-            letters.len(),
-            nodes.as_ptr(),
-            nodes.len(),
-            times,
-        )
-    }
-}
-
 pub fn find(nodes: &[Node]) -> Verdict {
     unsafe { ql_find(nodes.as_ptr(), nodes.len()) }
-}
-
-pub fn find_often(nodes: &[Node], times: u64) -> u64 {
-    unsafe { ql_find_often(nodes.as_ptr(), nodes.len(), times) }
 }
 
 pub fn next(nodes: &[Node], answer: u64, to: &mut [Node]) -> Verdict {
@@ -163,10 +126,6 @@ pub fn next(nodes: &[Node], answer: u64, to: &mut [Node]) -> Verdict {
             to.len(),
         )
     }
-}
-
-pub fn next_often(nodes: &[Node], times: u64) -> u64 {
-    unsafe { ql_next_often(nodes.as_ptr(), nodes.len(), times) }
 }
 
 pub fn run(
@@ -193,33 +152,6 @@ pub fn run(
             kinds.len(),
             pulses.as_mut_ptr(),
             pulses.len(),
-        )
-    }
-}
-
-pub fn run_often(letters: &[u32], nodes: &[Node], outcomes: &[u8], budget: u64, times: u64) -> u64 {
-    unsafe {
-        ql_run_often(
-            letters.as_ptr(),
-            letters.len(),
-            nodes.as_ptr(),
-            nodes.len(),
-            outcomes.as_ptr(),
-            outcomes.len(),
-            budget,
-            times,
-        )
-    }
-}
-
-pub fn shot_often(text: &[u8], outcomes: &[u8], times: u64) -> u64 {
-    unsafe {
-        ql_shot_often(
-            text.as_ptr(),
-            text.len(),
-            outcomes.as_ptr(),
-            outcomes.len(),
-            times,
         )
     }
 }

@@ -1,5 +1,1 @@
-mod Fresh
-mod Handed
-mod Runs
 mod Stepped
-mod Taken

@@ -1,6 +1,0 @@
-use Rattle.std.proofs.Common.{rules}
-use Rattle.exported.specs.Numbers.{cell_of}
-use Rattle.exported.proofs.tables.term_table.Goals as goal
-
-pub returns : goal.returns
-returns g c = c.taken.ensures cell_of (λ x y p. search rules)

@@ -1,0 +1,4 @@
+pub mod Fresh
+mod Handed
+mod Ran
+mod Taken
