@@ -60,7 +60,7 @@ gated_held bits Swap on below k = exchanged_held bits (get_or on 0 0) (get_or on
 gated_held bits Toffoli on below k = flipped_held bits (bit_of bits (get_or on 0 0) && bit_of bits (get_or on 1 0)) (get_or on 2 0) (below 2 (omega arith)) k
 
 -- a level, as a kind of register
-abbrev level_kind : Ghosts Level
+abbrev pub level_kind : Ghosts Level
 level_kind = record {
   Content = Bits;
   changes = level_changes;
@@ -68,6 +68,7 @@ level_kind = record {
   fresh = λ s. next_handle s.handles;
   outcome = level_outcome;
   passed_up = λ _. nothing_passed_up;
+  lent = λ _. [];
   owed = λ s. handles_owed s.handles level_makes s.pulses (level_bits s);
 }
 
@@ -86,7 +87,7 @@ module _ (r s : Level) where
   held_is (applies gate on) (e, after) k =
       let a = gate_accepted (level_meaning r) (λ _. 0) gate on e in
       same (ap (λ m. m.content) after) k
-      ∙ gated_held (places r.bits) gate on (λ i inside. live_here r (get_or on i 0) (each_live (places r.handles.live) on (get_or on i 0) i a.1 (let l = a.0 in omega arith) refl)) k
+      ∙ gated_held (places r.bits) gate on (λ i inside. live_here r (get_or on i 0) (each_live (places r.handles.live) on (get_or on i 0) i a.2 (let l = a.1 in omega arith) refl)) k
   held_is (reads h outcome) (e, after) k = same (ap (λ m. m.content) after) k
   held_is (lets_go h) (e, after) k =
       same (ap (λ m. m.content) after) k ∙ set_held (places r.bits) h false (live_here r h (let_go_accepted (level_meaning r) (λ _. 0) h e)) k

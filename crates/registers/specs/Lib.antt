@@ -9,6 +9,7 @@ pub mod Handles
 pub mod Next
 pub mod Free
 pub mod Bits
+pub mod Pulses
 pub mod Put
 pub mod Journal
 pub mod Layers

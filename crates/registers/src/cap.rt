@@ -21,6 +21,7 @@ impl<R: Register> Cap<R> {
     pub fn new(mut below: R, limit: usize) -> Cap<R>
         ensures limit { result.limit ≡ limit }
         ensures below { R.Register.meaning result.below ≡ after_clear R.Register.changes (R.Register.meaning below) }
+        ensures lent { R.Register.lent result.below ≡ R.Register.lent below }
     {
         below.clear();
         Cap { below, limit }
@@ -50,6 +51,8 @@ impl<R: Register> Register for Cap<R> {
 
     ghost passed_up = { λ s. cap_passes_up s.limit (counted (R.Register.meaning s.below).live)
         (depths (R.Register.passed_up s.below)) };
+
+    ghost lent = { λ s. R.Register.lent s.below };
 
     ghost owed = { λ s. capped_owed s.limit (R.Register.fresh s.below) (R.Register.meaning s.below) (R.Register.owed s.below) };
 

@@ -3,6 +3,7 @@
 ghost use Rattle.registers.specs.Depth.{DepthsAreCounted};
 ghost use Rattle.registers.specs.Layers.{CapsMerge};
 ghost use Rattle.registers.specs.Next.{NextIsFound};
+ghost use Rattle.registers.specs.Pulses.{EachPulseIsWritten};
 ghost use Rattle.registers.specs.Put.{LevelReadsWhatWasPut};
 ghost use Rattle.registers.specs.Room.{RoomIsKept};
 ghost use Rattle.registers.specs.Sheet.{RefusalsAreExact};
@@ -52,6 +53,14 @@ pub fn next_is_found() -> u8
 /// Whatever a level held and whichever calls it accepts, it holds and answers for each handle the bit that they put there.
 pub fn level_reads_what_was_put() -> u8
     ensures { LevelReadsWhatWasPut ⟦<Level as Register>⟧ }
+{
+    0
+}
+
+/// Each pulse of a tape writes its own entry of the journal, nothing else touches an entry, and a read as pulse k
+/// answers whether outcome k is odd.
+pub fn each_pulse_is_written<'a>() -> u8
+    ensures { EachPulseIsWritten ⟦<Tape<'a> as Register>⟧ }
 {
     0
 }

@@ -1,6 +1,7 @@
 //! The calls of a register of qubits, with its meaning as ghost members.
 
-ghost use Rattle.std.specs.Prelude.{◌≡◌, ℕ, Bool, false, Option, MatchResult, slice_index_or};
+ghost use Rattle.std.specs.Prelude.{◌≡◌, ℕ, Bool, false, List, [], Option, MatchResult, slice_index_or};
+ghost use Rattle.std.specs.Borrow.{GName};
 ghost use Rattle.registers.specs.Meaning.{Meaning, Changes, Owed, counted, after_prepare, after_gate, after_read, after_let_go, after_clear};
 ghost use Rattle.registers.specs.Depth.{depths};
 ghost use Rattle.registers.specs.Answers.{prepare_answer, gate_answer, read_answer, let_go_answer};
@@ -30,6 +31,10 @@ pub trait Register {
 
     ghost owed: { (s : Self) → Owed (meaning s) (fresh s) };
 
+    // The tables that it was lent and holds by `&mut`, by their ghost names. No call exchanges them, so their owner
+    // knows what they hold when the register is gone.
+    ghost lent: { Self → List GName } = { λ _. [] };
+
     /// How many qubits may be live at once, at most 32.
     fn capacity(&self) -> usize
         ensures { result ≡ (meaning self.now).capacity };
@@ -55,30 +60,35 @@ pub trait Register {
         ensures answer { result ≡ prepare_answer (meaning self.old) (depths (passed_up self.old)) (fresh self.old) }
         ensures state { MatchResult result
             (λ h. meaning self.new ≡ after_prepare changes (meaning self.old) h bit)
-            (λ _. self.new ≡ self.old) };
+            (λ _. self.new ≡ self.old) }
+        ensures lent { lent self.new ≡ lent self.old };
 
     /// Applies a gate to the qubits, in their order, for one pulse.
     fn gate(&mut self, gate: Gate, on: &[u8]) -> Result<(), RegisterFault>
         ensures answer { result ≡ gate_answer (meaning self.old) (depths (passed_up self.old)) gate on.now }
         ensures state { MatchResult result
             (λ _. meaning self.new ≡ after_gate changes (meaning self.old) gate on.now)
-            (λ _. self.new ≡ self.old) };
+            (λ _. self.new ≡ self.old) }
+        ensures lent { lent self.new ≡ lent self.old };
 
     /// Reads a qubit, which stays live, for one pulse.
     fn read(&mut self, handle: u8) -> Result<bool, RegisterFault>
         ensures answer { result ≡ read_answer (meaning self.old) (depths (passed_up self.old)) handle (outcome self.old handle) }
         ensures state { MatchResult result
             (λ b. meaning self.new ≡ after_read changes (meaning self.old) handle b)
-            (λ _. self.new ≡ self.old) };
+            (λ _. self.new ≡ self.old) }
+        ensures lent { lent self.new ≡ lent self.old };
 
     /// Lets go of a qubit, for no pulse.
     fn let_go(&mut self, handle: u8) -> Result<(), RegisterFault>
         ensures answer { result ≡ let_go_answer (meaning self.old) (depths (passed_up self.old)) handle }
         ensures state { MatchResult result
             (λ _. meaning self.new ≡ after_let_go changes (meaning self.old) handle)
-            (λ _. self.new ≡ self.old) };
+            (λ _. self.new ≡ self.old) }
+        ensures lent { lent self.new ≡ lent self.old };
 
     /// Lets go of every qubit, for no pulse.
     fn clear(&mut self)
-        ensures { meaning self.new ≡ after_clear changes (meaning self.old) };
+        ensures state { meaning self.new ≡ after_clear changes (meaning self.old) }
+        ensures lent { lent self.new ≡ lent self.old };
 }

@@ -1,6 +1,6 @@
 //! A register that answers the outcomes it was handed and writes down what each pulse did.
 
-ghost use Rattle.std.specs.Prelude.{◌≡◌, ◌<◌, length};
+ghost use Rattle.std.specs.Prelude.{◌≡◌, ◌<◌, [], ◌∷◌, length};
 ghost use Rattle.registers.specs.Handles.{next_handle};
 ghost use Rattle.registers.specs.Depth.{nothing_passed_up};
 ghost use Rattle.registers.specs.Free.{handles_owed};
@@ -25,7 +25,8 @@ pub struct Tape<'a> {
 impl<'a> Tape<'a> {
     /// No live qubit; as many pulses as the shorter of outcomes and journal; a capacity above 32 is 32.
     pub fn new(capacity: usize, outcomes: &'a [u8], journal: &'a mut [Entry]) -> Tape<'a>
-        ensures { tape_meaning result ≡ new_tape capacity outcomes.now journal.old }
+        ensures meaning { tape_meaning result ≡ new_tape capacity outcomes.now journal.old }
+        ensures same_journal { result.journal.ghost_name ≡ journal.entry.ghost_name }
     {
         Tape {
             handles: Handles::new(capacity),
@@ -46,6 +47,7 @@ impl<'a> Tape<'a> {
     fn spend(&mut self, entry: Entry)
         requires { self.old.spent < length self.old.journal.now }
         ensures handles { self.new.handles ≡ self.old.handles }
+        ensures same_journal { self.new.journal.ghost_name ≡ self.old.journal.ghost_name }
         ensures reel { tape_reel self.new ≡ filled (tape_reel self.old) entry self.old.handles.next }
     {
         self.journal[self.spent] = entry;
@@ -65,6 +67,8 @@ impl<'a> Register for Tape<'a> {
     ghost outcome = { λ s _. outcome_next (tape_reel s) };
 
     ghost passed_up = { λ _. nothing_passed_up };
+
+    ghost lent = { λ s. s.journal.ghost_name ∷ [] };
 
     ghost owed = { λ s. handles_owed s.handles tape_makes (pulses_left (tape_reel s)) (tape_reel s) };
 

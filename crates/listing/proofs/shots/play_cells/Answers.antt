@@ -24,7 +24,7 @@ copy_of-requires c =
     let end = stage (held c.play-controller.result.shot) c.play-controller.result.register new.work new.value new.kinds in
     let load = Load c.args.types c.args.terms in
     let played = on_new_tables c.new-tape.result load new.replies end (new_cell _ c.default-work.ensures) (new_cell _ c.default-value.ensures) (new_kind _ c.default-kinds.ensures) c.play-controller.ensures.played in
-    let is_new = c.new-tape.ensures ∙ ap (λ xs. new_tape 8 xs (replicate 64 Empty)) c.outcomes-outcomes.ensures in
+    let is_new = c.new-tape.ensures.meaning ∙ ap (λ xs. new_tape 8 xs (replicate 64 Empty)) c.outcomes-outcomes.ensures in
     ap length (c.journal.ensures ∙ ap (λ (r : Tape). (tape_reel r).entries) c.register.ensures)
     ∙ entries_here c.args.types.now c.args.terms.now c.new-tape.result load new.replies end (refl, refl) is_new played
 
@@ -34,7 +34,7 @@ returns-in-Ok c =
     let end = stage (held c.play-controller.result.shot) c.play-controller.result.register new.work new.value new.kinds in
     let load = Load c.args.types c.args.terms in
     let played = on_new_tables c.new-tape.result load new.replies end (new_cell _ c.default-work.ensures) (new_cell _ c.default-value.ensures) (new_kind _ c.default-kinds.ensures) c.play-controller.ensures.played in
-    let is_new = c.new-tape.ensures ∙ ap (λ xs. new_tape 8 xs (replicate 64 Empty)) c.outcomes-outcomes.ensures in
+    let is_new = c.new-tape.ensures.meaning ∙ ap (λ xs. new_tape 8 xs (replicate 64 Empty)) c.outcomes-outcomes.ensures in
     let entries = c.copy_of.ensures ∙ c.journal.ensures ∙ ap (λ (r : Tape). (tape_reel r).entries) c.register.ensures in
     let shot =
     cells_played c.args.types.now c.args.terms.now c.new-tape.result load new.replies end (Ok c.in-Ok.report) _ (refl, refl) is_new c.play-controller.auto.replies played c.in-Ok.ensures
@@ -47,7 +47,7 @@ returns-in-Err c =
     let end = stage (held c.play-controller.result.shot) c.play-controller.result.register new.work new.value new.kinds in
     let load = Load c.args.types c.args.terms in
     let played = on_new_tables c.new-tape.result load new.replies end (new_cell _ c.default-work.ensures) (new_cell _ c.default-value.ensures) (new_kind _ c.default-kinds.ensures) c.play-controller.ensures.played in
-    let is_new = c.new-tape.ensures ∙ ap (λ xs. new_tape 8 xs (replicate 64 Empty)) c.outcomes-outcomes.ensures in
+    let is_new = c.new-tape.ensures.meaning ∙ ap (λ xs. new_tape 8 xs (replicate 64 Empty)) c.outcomes-outcomes.ensures in
     let shot =
     cells_played c.args.types.now c.args.terms.now c.new-tape.result load new.replies end (Err c.in-Err.fault) _ (refl, refl) is_new c.play-controller.auto.replies played c.in-Err.ensures c.from.ensures in
     record { played = shot; listed = played_is_listed _ _ _ shot }

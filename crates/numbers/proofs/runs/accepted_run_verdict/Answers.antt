@@ -20,7 +20,7 @@ returns c =
     let terms = c.args.program.now.terms.now in
     let end = c.load_and_run-run.new in
     let last = stands (held end.controller.shot) (tape_meaning end.controller.register) end.work in
-    let cleared = c.new-controller.ensures.register ∙ ap (after_clear tape_changes) c.new.ensures in
+    let cleared = c.new-controller.ensures.register ∙ ap (after_clear tape_changes) c.new.ensures.meaning in
     let start = started c.args.outcomes.now (held c.new-controller.result.shot)
     (tape_meaning c.new-controller.result.register) c.default-work.result
     c.new-controller.ensures.held cleared c.default-work.ensures in

@@ -11,7 +11,7 @@ pub returns : goal.returns
 returns c =
     let types = c.args.program.now.types.now in
     let terms = c.args.program.now.terms.now in
-    let cleared = c.new-controller.ensures.register ∙ ap (after_clear tape_changes) c.new.ensures in
+    let cleared = c.new-controller.ensures.register ∙ ap (after_clear tape_changes) c.new.ensures.meaning in
     let start = started c.args.outcomes.now (held c.new-controller.result.shot)
     (tape_meaning c.new-controller.result.register) c.default-work.result
     c.new-controller.ensures.held cleared c.default-work.ensures in

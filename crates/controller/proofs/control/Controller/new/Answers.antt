@@ -11,7 +11,7 @@ invariant_of-result g c =
     let nothing : held c.default.result ≡ nothing_held = search rules in
     record {
       reached = ∣ subst (λ h. Kept r.changes h (r.meaning c.clear.new.self)) (sym nothing)
-          (subst (Kept r.changes nothing_held) (sym c.clear.ensures) (kept_new r.changes (r.meaning register) (r.owed register).small)) ∣₁;
+          (subst (Kept r.changes nothing_held) (sym c.clear.ensures.state) (kept_new r.changes (r.meaning register) (r.owed register).small)) ∣₁;
     }
 
 pub returns-clause-kept : goal.returns-clause-kept
@@ -20,4 +20,4 @@ returns-clause-kept g c =
     let register = c.args.register in
     let nothing : held c.default.result ≡ nothing_held = search rules in
     subst (λ h. Kept r.changes h (r.meaning c.clear.new.self)) (sym nothing)
-    (subst (Kept r.changes nothing_held) (sym c.clear.ensures) (kept_new r.changes (r.meaning register) (r.owed register).small))
+    (subst (Kept r.changes nothing_held) (sym c.clear.ensures.state) (kept_new r.changes (r.meaning register) (r.owed register).small))
