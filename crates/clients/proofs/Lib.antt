@@ -1,2 +1,3 @@
+mod Levels
 mod Qubit
 mod Steps

@@ -1,12 +1,9 @@
-use Rattle.registers.specs.Depth.{depths}
-use Rattle.clients.proofs.Steps.{uses}
+use Rattle.clients.proofs.Steps.{uses_handle}
 use Rattle.clients.proofs.uses.prepare_and_read.Goals as goal
 
-pub returns : goal.returns
-returns g c =
-    let r = g.R.Register in
-    let s = c.args.register.now in
+pub returns-clause-answer : goal.returns-clause-answer
+returns-clause-answer g c =
     let p = c.in_ok-handle.ensures in
     let q = c.read-outcome.ensures in
     let l = c.in_ok-let_go.ensures in
-    uses r.changes r.meaning (λ x. depths (r.passed_up x)) r.outcome s (r.fresh s) c.in_ok-handle.handle c.args.bit (r.owed s) p.answer p.state l.state c.read-outcome.result q.answer q.state
+    uses_handle g.R.Register c.args.register.now c.prepare.new.self c.read-outcome.new.self c.let_go.new.self c.args.bit c.in_ok-handle.handle (p.answer, p.state) (l.answer, l.state) c.read-outcome.result q.answer q.state
