@@ -1,3 +1,4 @@
+pub mod Budget
 mod Counted
 mod Cutting
 mod Listed
@@ -5,4 +6,6 @@ mod Plain
 mod Journal
 mod Played
 pub mod Room
+mod Shapes
+pub mod Silent
 mod Texts

@@ -5,5 +5,6 @@ pub mod Listing
 pub mod Playing
 pub mod Replies
 pub mod Samples
+pub mod Shapes
 pub mod Shots
 pub mod Writing

@@ -1,13 +1,88 @@
 -- Stored programs with their whole listings, computed from the text.
-use Rattle.std.specs.Prelude.{◌≡◌, codes}
+use Rattle.std.specs.Prelude.{◌≡◌, ℕ, ◌==◌, if◌then◌else◌, List, [], ◌∷◌, map, codes}
+use Rattle.std.specs.List.{flat_map}
 use Rattle.listing.specs.Listed.{listing_of}
 
+-- a listing in parts, where a stroke stands for byte 10
+abbrev pub printed_byte : ℕ → ℕ
+printed_byte byte = if byte == 47 then 10 else byte
+
+abbrev pub printed : List (List ℕ) → List ℕ
+printed parts = flat_map (map printed_byte) parts
+
+-- a stored program in parts, where a blank stands for byte 9 besides
+abbrev pub stored_byte : ℕ → ℕ
+stored_byte byte = if byte == 32 then 9 else printed_byte byte
+
+abbrev pub stored : List (List ℕ) → List ℕ
+stored parts = flat_map (map stored_byte) parts
+
+-- meas (H (new 0)), a coin toss
+abbrev pub coin : List (List ℕ)
+coin =
+    codes "QL 1/T b/T >/T q/T b/T >/T q/T q/T >/T b/T q/M a 0 0/M m 0 1/M a 0 2/M g 0 4/"
+    ∷ codes "M a 0 2/M n 0 7/M 0 0 0/E 10 7/"
+    ∷ []
+
+abbrev pub coin_lines : List (List ℕ)
+coin_lines = codes "S 3 0/T b/M 0 0/J 0 P 0 0 - -/J 1 G 0 0 - -/J 2 R 0 0 - -/" ∷ []
+
+-- an empty text
+abbrev pub empty : List (List ℕ)
+empty = []
+
+-- a number with a leading zero, which the reader refuses at line 3
+abbrev pub leading_zero : List (List ℕ)
+leading_zero =
+    codes "QL 1/T b/M 0 0 00/E 1 1/"
+    ∷ []
+
+-- gate 8, which there is not, and which the checker refuses
+abbrev pub no_such_gate : List (List ℕ)
+no_such_gate =
+    codes "QL 1/T q/T >/T q/T q/T >/T b/T q/M a 0 0/M g 8 1/M a 0 0/M n 0 4/M 0 0 5/E 7 5/"
+    ∷ []
+
+-- a gate that is applied to a bit
+abbrev pub gate_on_a_bit : List (List ℕ)
+gate_on_a_bit =
+    codes "QL 1/T q/T >/T q/T q/T b/M a 0 0/M g 0 1/M 0 0 4/E 5 3/"
+    ∷ []
+
+-- nine qubits, for the last of which there is no room: its step is refused
+abbrev pub ninth_qubit : List (List ℕ)
+ninth_qubit =
+    codes "QL 1/T */T q/T */T q/T */T q/T */T q/T */T q/T */T q/T */T q/T */T q/T q/T >/T b/"
+    ∷ codes "T q/M p 0 0/M a 0 1/M n 0 17/M 0 0 18/M p 0 2/M a 0 1/M n 0 17/M 0 0 18/M p 0 4/"
+    ∷ codes "M a 0 1/M n 0 17/M 0 0 18/M p 0 6/M a 0 1/M n 0 17/M 0 0 18/M p 0 8/M a 0 1/"
+    ∷ codes "M n 0 17/M 0 0 18/M p 0 10/M a 0 1/M n 0 17/M 0 0 18/M p 0 12/M a 0 1/M n 0 17/"
+    ∷ codes "M 0 0 18/M p 0 14/M a 0 1/M n 0 17/M 0 0 18/M a 0 1/M n 0 17/M 1 0 18/E 20 35/"
+    ∷ []
+
+abbrev pub ninth_qubit_lines : List (List ℕ)
+ninth_qubit_lines =
+    codes "S 8 2/J 0 P 0 0 - -/J 1 P 1 0 - -/J 2 P 2 0 - -/J 3 P 3 0 - -/J 4 P 4 0 - -/"
+    ∷ codes "J 5 P 5 0 - -/J 6 P 6 0 - -/J 7 P 7 0 - -/X 42 8/"
+    ∷ []
+
+-- a bit that is flipped 256 times, which takes more than 1,000 steps
+abbrev pub flips : List (List ℕ)
+flips =
+    codes "QL 1/T b/T >/T b/T b/T !/T >/T b/T b/T >/T !/T >/T b/T b/T b/M a 0 0/M l 0 1/"
+    ∷ codes "M a 0 0/M l 0 8/M a 0 0/M v 0 1/M a 0 0/M v 0 1/M v 1 0/M l 0 4/M a 0 0/M l 0 8/"
+    ∷ codes "M a 0 0/M v 0 1/M a 0 0/M v 0 1/M v 1 0/M l 0 4/M a 0 0/M l 0 8/M a 0 0/M v 0 1/"
+    ∷ codes "M a 0 0/M v 0 1/M v 1 0/M l 0 4/M a 0 0/M l 0 8/M a 0 0/M v 0 1/M a 0 0/M v 0 1/"
+    ∷ codes "M v 1 0/M l 0 4/M a 0 0/M l 0 8/M a 0 0/M v 0 1/M a 0 0/M v 0 1/M v 1 0/M l 0 4/"
+    ∷ codes "M a 0 0/M l 0 8/M a 0 0/M v 0 1/M a 0 0/M v 0 1/M v 1 0/M l 0 4/M a 0 0/M l 0 8/"
+    ∷ codes "M a 0 0/M v 0 1/M a 0 0/M v 0 1/M v 1 0/M l 0 4/M a 0 0/M l 0 8/M a 0 0/M v 0 1/"
+    ∷ codes "M a 0 0/M v 0 1/M v 1 0/M l 0 4/M i 0 0/M v 0 0/M 0 0 0/M 1 0 0/M 0 0 0/E 14 71/"
+    ∷ []
+
 pub record TextsAreListed : Type 0 where
-  -- meas (H (new 0)), a coin toss
-  pub coin : listing_of (codes "QL\t1\nT\tb\nT\t>\nT\tq\nT\tb\nT\t>\nT\tq\nT\tq\nT\t>\nT\tb\nT\tq\nM\ta\t0\t0\nM\tm\t0\t1\nM\ta\t0\t2\nM\tg\t0\t4\nM\ta\t0\t2\nM\tn\t0\t7\nM\t0\t0\t0\nE\t10\t7\n") ≡ codes "S 3 0\nT b\nM 0 0\nJ 0 P 0 0 - -\nJ 1 G 0 0 - -\nJ 2 R 0 0 - -\n"
-  -- an empty text
-  pub unread : listing_of (codes "") ≡ codes "X 15 1\n"
-  -- no room for a ninth qubit: the run is refused at a step
-  pub full : listing_of (codes "QL\t1\nT\t*\nT\tq\nT\t*\nT\tq\nT\t*\nT\tq\nT\t*\nT\tq\nT\t*\nT\tq\nT\t*\nT\tq\nT\t*\nT\tq\nT\t*\nT\tq\nT\tq\nT\t>\nT\tb\nT\tq\nM\tp\t0\t0\nM\ta\t0\t1\nM\tn\t0\t17\nM\t0\t0\t18\nM\tp\t0\t2\nM\ta\t0\t1\nM\tn\t0\t17\nM\t0\t0\t18\nM\tp\t0\t4\nM\ta\t0\t1\nM\tn\t0\t17\nM\t0\t0\t18\nM\tp\t0\t6\nM\ta\t0\t1\nM\tn\t0\t17\nM\t0\t0\t18\nM\tp\t0\t8\nM\ta\t0\t1\nM\tn\t0\t17\nM\t0\t0\t18\nM\tp\t0\t10\nM\ta\t0\t1\nM\tn\t0\t17\nM\t0\t0\t18\nM\tp\t0\t12\nM\ta\t0\t1\nM\tn\t0\t17\nM\t0\t0\t18\nM\tp\t0\t14\nM\ta\t0\t1\nM\tn\t0\t17\nM\t0\t0\t18\nM\ta\t0\t1\nM\tn\t0\t17\nM\t1\t0\t18\nE\t20\t35\n") ≡ codes "S 8 2\nJ 0 P 0 0 - -\nJ 1 P 1 0 - -\nJ 2 P 2 0 - -\nJ 3 P 3 0 - -\nJ 4 P 4 0 - -\nJ 5 P 5 0 - -\nJ 6 P 6 0 - -\nJ 7 P 7 0 - -\nX 42 8\n"
-  -- a gate that there is not: the program is refused
-  pub unchecked : listing_of (codes "QL\t1\nT\tq\nT\t>\nT\tq\nT\tq\nT\t>\nT\tb\nT\tq\nM\ta\t0\t0\nM\tg\t8\t1\nM\ta\t0\t0\nM\tn\t0\t4\nM\t0\t0\t5\nE\t7\t5\n") ≡ codes "X 21 1\n"
+  pub of_coin : listing_of (stored coin) ≡ printed coin_lines
+  pub of_empty : listing_of (stored empty) ≡ printed (codes "X 15 1/" ∷ [])
+  pub of_leading_zero : listing_of (stored leading_zero) ≡ printed (codes "X 13 3/" ∷ [])
+  pub of_no_such_gate : listing_of (stored no_such_gate) ≡ printed (codes "X 21 1/" ∷ [])
+  pub of_gate_on_a_bit : listing_of (stored gate_on_a_bit) ≡ printed (codes "X 26 0/" ∷ [])
+  pub of_ninth_qubit : listing_of (stored ninth_qubit) ≡ printed ninth_qubit_lines
+  pub of_flips : listing_of (stored flips) ≡ printed (codes "S 1000 1/" ∷ [])

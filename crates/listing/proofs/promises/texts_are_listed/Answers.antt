@@ -1,9 +1,33 @@
-use Rattle.std.proofs.Common.{refl}
+use Rattle.std.proofs.Common.{◌≡◌, [], ◌∷◌, take, codes, refl, ap, ◌∙◌}
 use Rattle.std.specs.Char.{encode_utf8}
 use Rattle.std.specs.Fmt.{digits}
-use Rattle.controller.specs.Settled.{run_from}
+use Rattle.registers.specs.Journal.{tape_changes}
+use Rattle.registers.specs.Telling.{tape_tells}
+use Rattle.controller.specs.Settled.{run_from, run_of}
+use Rattle.listing.specs.Lines.{text_of}
+use Rattle.listing.specs.Listed.{listing_of, run_begins, run_listed, text_listed}
+use Rattle.listing.specs.Playing.{text_read}
+use Rattle.listing.specs.Shots.{TextsAreListed, coin, coin_lines, empty, leading_zero, no_such_gate, gate_on_a_bit, ninth_qubit, ninth_qubit_lines, flips, stored, printed}
+use Rattle.listing.proofs.Budget.{spent_lines}
 use Rattle.listing.proofs.promises.texts_are_listed.Goals as goal
+
+flips_listed : listing_of (stored flips) ≡ printed (codes "S 1000 1/" ∷ [])
+unfolding digits
+flips_listed =
+    let r = text_read (stored flips) in
+    let types = take 14 r.types in
+    let terms = take 71 r.terms in
+    let runs : text_listed (stored flips) ≡ run_listed (run_of tape_changes tape_tells 1000 (run_begins types terms)) = refl in
+    ap text_of (runs ∙ spent_lines types terms refl)
 
 pub returns : goal.returns
 unfolding digits encode_utf8 run_from
-returns c = record { coin = refl; unread = refl; full = refl; unchecked = refl }
+returns c = record {
+  of_coin = refl;
+  of_empty = refl;
+  of_leading_zero = refl;
+  of_no_such_gate = refl;
+  of_gate_on_a_bit = refl;
+  of_ninth_qubit = refl;
+  of_flips = flips_listed;
+}
