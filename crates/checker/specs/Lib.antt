@@ -7,4 +7,3 @@ pub mod Scoping
 pub mod Sheet
 pub mod Tables
 pub mod Tested
-pub mod Worked

@@ -5,7 +5,6 @@ ghost use Rattle.checker.specs.Accepting.{CheckingIsExact, IsDerivable, accepts,
 ghost use Rattle.checker.specs.Judging.{verdict_of};
 ghost use Rattle.checker.specs.Sheet.{FirstRowAnswers, Holds, Sooner, fault_of};
 ghost use Rattle.verdict.specs.Sheet.{Answers};
-ghost use Rattle.checker.specs.Worked.{WorkedPrograms};
 
 use crate::judging::judge_term;
 use crate::tables::test_tables;
@@ -58,9 +57,4 @@ pub fn checking_is_exact()
 /// holds, and else the refusal by one, at its cell, before which none does.
 pub fn the_first_row_answers()
     ensures { FirstRowAnswers }
-{}
-
-/// Worked programs get the verdicts that they should.
-pub fn worked_programs_are_judged()
-    ensures { WorkedPrograms }
 {}

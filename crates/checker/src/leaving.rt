@@ -10,7 +10,12 @@ use crate::used::Used;
 use verdict::{CheckFault, CheckReason};
 
 /// The binders that two parts use, where those that both use are duplicable.
-pub(crate) fn apart(scope: &Scope<'_>, left: Used, right: Used, at: usize) -> Result<Used, CheckFault>
+pub(crate) fn apart(
+    scope: &Scope<'_>,
+    left: Used,
+    right: Used,
+    at: usize,
+) -> Result<Used, CheckFault>
     ensures verdict { verdict_of result ≡ apart at (in_scope scope.now) (used_below left (depth scope.now)) (used_below right (depth scope.now)) }
     ensures used { IfOk result (λ u. (k : ℕ) → has u k ≡ (has left k || has right k)) }
 {

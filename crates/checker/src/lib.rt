@@ -10,7 +10,5 @@ mod scope;
 mod tables;
 mod used;
 
-pub use accepting::{
-    Accepted, check, checking_is_exact, the_first_row_answers, worked_programs_are_judged,
-};
+pub use accepting::{Accepted, check, checking_is_exact, the_first_row_answers};
 pub use verdict::{CheckFault, CheckReason};

@@ -4,4 +4,3 @@ pub mod Judging
 pub mod Sharing
 pub mod Sheet
 pub mod Uses
-pub mod Worked

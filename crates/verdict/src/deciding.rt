@@ -4,7 +4,6 @@
 ghost use Rattle.verdict.specs.Judging.{AcceptanceIsDerivability, AcceptanceIsDerivabilityBelow};
 ghost use Rattle.verdict.specs.Sheet.{FirstRowAnswers};
 ghost use Rattle.verdict.specs.Uses.{UsesAreFree};
-ghost use Rattle.verdict.specs.Worked.{WorkedRows};
 
 /// Accepted are just the terms that have a derivation with their claims and nest at most 32 binders.
 pub fn acceptance_is_derivability()
@@ -25,9 +24,4 @@ pub fn the_first_row_answers()
 /// A term uses just its free variables.
 pub fn uses_are_free()
     ensures { UsesAreFree }
-{}
-
-/// Worked terms and types get the answers that they should.
-pub fn worked_terms_are_judged()
-    ensures { WorkedRows }
 {}

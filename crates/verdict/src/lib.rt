@@ -6,6 +6,6 @@ mod faults;
 
 pub use deciding::{
     acceptance_is_derivability, acceptance_is_derivability_below, the_first_row_answers,
-    uses_are_free, worked_terms_are_judged,
+    uses_are_free,
 };
 pub use faults::{CheckFault, CheckReason};

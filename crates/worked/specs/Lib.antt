@@ -1,1 +1,3 @@
+pub mod Rows
 pub mod Worked
+pub mod Written

@@ -1,110 +1,83 @@
--- Worked terms, each with the answer that the definitions give: one table for verdicts, subtyping, the finder, steps and live qubits.
-use Rattle.std.specs.Prelude.{◌≡◌, ℕ, Bool, true, false, List, [], ◌∷◌, map, Some, None, Ok, Err, codes, Option, Result, slice_set}
-use Rattle.calculus.specs.declared.cells.TypeCell.{TypeCell}
-use Rattle.calculus.specs.declared.cells.TermCell.{TermCell}
-use Rattle.calculus.specs.Cells.{cell_of}
-use Rattle.calculus.specs.Types.{Ty, bit, bang}
-use Rattle.calculus.specs.Stripping.{subtype}
-use Rattle.verdict.specs.Faults.{Verdict, accepted, fault}
-use Rattle.verdict.specs.declared.faults.CheckReason.TheVariants.{NotWhole, UsedTwice, Captures}
-use Rattle.checker.specs.Accepting.{program_verdict}
-use Rattle.finder.specs.Finding.{answer}
-use Rattle.finder.specs.declared.rules.Rule.{Rule}
-use Rattle.finder.specs.declared.faults.FindFault.{FindFault}
-use Rattle.finder.specs.declared.faults.FindReason.TheVariants.{NoRule}
-use Rattle.stepper.specs.Naming.{names, dropped}
-use Rattle.stepper.specs.Next.{next_cells}
-use Rattle.stepper.specs.declared.writing.Answer.{Answer}
-use Rattle.stepper.specs.declared.writing.Answer.TheVariants.{Nothing, Handle, Outcome}
-use Rattle.registers.specs.Meaning.{counted, none_live}
+-- The table of worked terms.
+use Rattle.std.specs.Prelude.{true, false, List, [], ◌∷◌}
+use Rattle.calculus.specs.Terms.{bit_of, meas, new, gate, bound, held, Term, var, const, star, lam, app, pair, if_then_else, Running}
+use Rattle.calculus.specs.Types.{Ty, bit, qbit, unit, bang, arrow, tensor}
+use Rattle.calculus.specs.declared.gates.Gate.TheVariants.{H, Cnot, Toffoli}
+use Rattle.worked.specs.Rows.{Row, passes, fails, refused, below, not_below, stuck, comes_to, AllHold}
 
--- the cells after the step that the finder answers, with the register's answer
-abbrev stepped : Result (Option (Rule × ℕ)) FindFault → List TermCell → Answer → List TermCell
-stepped (Ok None) cs a = cs
-stepped (Ok (Some (r, k))) cs a = next_cells cs r k a
-stepped (Err f) cs a = cs
+-- fun x.(x, x), where x has the type a and each component claims b
+abbrev pub twice : Ty → Ty → Term Ty
+twice a b =
+    lam (arrow a (tensor b b)) (pair (tensor b b) (var b (bound 0)) (var b (bound 0)))
 
-abbrev next : List TermCell → Answer → List TermCell
-next cs a = stepped (answer cs) cs a
-
-abbrev after_steps : List TermCell → List Answer → List TermCell
-after_steps cs [] = cs
-after_steps cs (a ∷ xs) = after_steps (next cs a) xs
-
--- the live qubits once the register has answered, and once it has let go of some
-abbrev with_answer : Answer → List Bool → List Bool
-with_answer Nothing live = live
-with_answer (Handle h) live = slice_set live h true
-with_answer (Outcome b) live = live
-
-abbrev without : List ℕ → List Bool → List Bool
-without [] live = live
-without (h ∷ hs) live = without hs (slice_set live h false)
-
-abbrev live_after : List TermCell → List Answer → List Bool → List Bool
-live_after cs [] live = live
-live_after cs (a ∷ xs) live = live_after (next cs a) xs (without (dropped (names cs) (names (next cs a))) (with_answer a live))
-
--- What is asked: the verdict on a program, whether a type is below another, what the finder answers, which cells are left after
--- steps with these answers of the register, and how many qubits are live then, where none were before.
-pub data Question : Type 0 where
-  verdict_on : List TypeCell → List TermCell → Question
-  is_below : Ty → Ty → Question
-  found_in : List TermCell → Question
-  cells_after : List TermCell → List Answer → Question
-  live_count_after : List TermCell → List Answer → Question
-
-pub data Reply : Type 0 where
-  judged : Verdict → Reply
-  decided : Bool → Reply
-  finds : Result (Option (Rule × ℕ)) FindFault → Reply
-  left : List TermCell → Reply
-  live : ℕ → Reply
-
-abbrev pub reply : Question → Reply
-reply (verdict_on types terms) = judged (program_verdict types terms)
-reply (is_below a b) = decided (subtype a b)
-reply (found_in cs) = finds (answer cs)
-reply (cells_after cs xs) = left (after_steps cs xs)
-reply (live_count_after cs xs) = live (counted (live_after cs xs none_live))
-
--- type cells by their letters, and running terms by theirs, all of whose arguments are 0
-abbrev types : List ℕ → List TypeCell
-types kinds = map (λ k. record { kind = k }) kinds
-
-abbrev running : List ℕ → List TermCell
-running ops = map (λ op. cell_of op 0 0) ops
-
--- fun x.(x, x), whose cells claim the types at these places
-abbrev twice : ℕ → ℕ → List TermCell
-twice both one = cell_of 108 0 0 ∷ cell_of 112 0 both ∷ cell_of 118 0 one ∷ cell_of 118 0 one ∷ []
-
--- fun x.fun y.x
-abbrev first_of_two : List TermCell
-first_of_two = cell_of 108 0 0 ∷ cell_of 108 0 2 ∷ cell_of 118 1 1 ∷ []
+-- fun x.fun y.x, a duplicable function in a function
+abbrev pub first_of_two : Term Ty
+first_of_two =
+    let inner = bang (arrow bit qbit) in lam (arrow qbit inner) (lam inner (var qbit (bound 1)))
 
 -- fun x.if 0 then x else x
-abbrev in_both_branches : List TermCell
-in_both_branches = cell_of 108 0 0 ∷ cell_of 105 0 1 ∷ cell_of 48 0 3 ∷ cell_of 118 0 1 ∷ cell_of 118 0 1 ∷ []
+abbrev pub in_both_branches : Term Ty
+in_both_branches =
+    lam (arrow qbit qbit)
+    (if_then_else qbit (const bit (bit_of false)) (var qbit (bound 0)) (var qbit (bound 0)))
 
-abbrev pub rows : List (Question × Reply)
+-- the constants of running terms
+abbrev pub zero_bit : Running
+zero_bit = const tt (bit_of false)
+
+abbrev pub one_bit : Running
+one_bit = const tt (bit_of true)
+
+-- (fun x.0) m
+abbrev pub forgets : Running → Running
+forgets m = app tt (lam tt zero_bit) m
+
+abbrev pub two_qubits : Ty
+two_qubits = tensor qbit qbit
+
+abbrev pub three_qubits : Ty
+three_qubits = tensor qbit two_qubits
+
+abbrev pub rows : List Row
 rows =
-    (verdict_on (types (codes ">q*qq")) (twice 2 1), judged (Err (fault UsedTwice 1)))
-    ∷ (verdict_on (types (codes ">b*bb")) (twice 2 1), judged (Err (fault UsedTwice 1)))
-    ∷ (verdict_on (types (codes ">!b*bb")) (twice 3 2), judged accepted)
-    ∷ (verdict_on (types (codes ">q!>bq")) first_of_two, judged (Err (fault Captures 1)))
-    ∷ (verdict_on (types (codes ">qqb")) in_both_branches, judged accepted)
-    ∷ (verdict_on [] [], judged (Err (fault NotWhole 0)))
-    ∷ (is_below (bang bit) bit, decided true)
-    ∷ (is_below bit (bang bit), decided false)
-    -- 0 applied to 1
-    ∷ (found_in (running (codes "a01")), finds (Err (record { reason = NoRule; cell = 0 })))
-    -- if 1 then 0 else 1
-    ∷ (cells_after (running (codes "i101")) (Nothing ∷ []), left (running (codes "0")))
-    -- (fun x.0)(new 0), after one step and after two
-    ∷ (live_count_after (running (codes "al0an0")) (Handle 0 ∷ []), live 1)
-    ∷ (live_count_after (running (codes "al0an0")) (Handle 0 ∷ Nothing ∷ []), live 0)
+    fails (twice qbit qbit) 27 1
+    ∷ fails (twice bit bit) 27 1
+    ∷ passes (twice (bang bit) bit)
+    ∷ fails first_of_two 28 1
+    ∷ passes in_both_branches
+    ∷ refused [] [] 22 0
+    ∷ below (bang bit) bit
+    ∷ not_below bit (bang bit)
+    ∷ stuck (app tt zero_bit one_bit) 36 0
+    ∷ comes_to (if_then_else tt one_bit zero_bit one_bit) 1 zero_bit 0
+    ∷ comes_to (forgets (app tt (const tt new) zero_bit)) 1 (forgets (var tt (held 0))) 1
+    ∷ comes_to (forgets (app tt (const tt new) zero_bit)) 2 zero_bit 0
+    -- each constant at its own type, at a greater one, and at another
+    ∷ passes (const (bang bit) (bit_of false))
+    ∷ passes (const bit (bit_of false))
+    ∷ fails (const qbit (bit_of false)) 26 0
+    ∷ passes (const (bang bit) (bit_of true))
+    ∷ passes (const bit (bit_of true))
+    ∷ fails (const unit (bit_of true)) 26 0
+    ∷ passes (const (bang (arrow bit qbit)) new)
+    ∷ passes (const (arrow (bang bit) qbit) new)
+    ∷ fails (const (bang (arrow bit (bang qbit))) new) 26 0
+    ∷ passes (const (bang (arrow qbit (bang bit))) meas)
+    ∷ passes (const (arrow qbit bit) meas)
+    ∷ fails (const (arrow bit bit) meas) 26 0
+    ∷ passes (star unit)
+    ∷ passes (star (bang unit))
+    ∷ fails (star bit) 26 0
+    ∷ passes (const (bang (arrow qbit qbit)) (gate H))
+    ∷ passes (const (arrow qbit qbit) (gate H))
+    ∷ fails (const (arrow qbit bit) (gate H)) 26 0
+    ∷ passes (const (bang (arrow two_qubits two_qubits)) (gate Cnot))
+    ∷ passes (const (arrow two_qubits two_qubits) (gate Cnot))
+    ∷ fails (const (bang (arrow qbit qbit)) (gate Cnot)) 26 0
+    ∷ passes (const (bang (arrow three_qubits three_qubits)) (gate Toffoli))
+    ∷ passes (const (arrow three_qubits three_qubits) (gate Toffoli))
+    ∷ fails (const (arrow three_qubits (tensor two_qubits qbit)) (gate Toffoli)) 26 0
     ∷ []
 
 abbrev pub WorkedTerms : Type 0
-WorkedTerms = map (λ r. reply r.0) rows ≡ map (λ r. r.1) rows
+WorkedTerms = AllHold rows

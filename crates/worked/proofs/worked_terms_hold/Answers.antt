@@ -1,5 +1,5 @@
-use Rattle.std.proofs.Common.{refl}
+use Rattle.worked.proofs.Worked.{worked_terms}
 use Rattle.worked.proofs.worked_terms_hold.Goals as goal
 
 pub returns : goal.returns
-returns c = refl
+returns c = worked_terms
