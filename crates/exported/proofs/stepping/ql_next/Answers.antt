@@ -4,6 +4,7 @@ use Rattle.calculus.proofs.NewCells.{new_cell}
 use Rattle.numbers.specs.Cells.{node_of, handed, running_seen}
 use Rattle.numbers.specs.Steps.{stepped, stepped_in}
 use Rattle.exported.specs.Steps.{answer_of}
+use Rattle.stepper.proofs.Steps.{makes_step}
 use Rattle.exported.proofs.Stepped.{done, refused}
 use Rattle.exported.proofs.stepping.ql_next.Goals as goal
 
@@ -34,3 +35,11 @@ returns-else-verdict-eq0-clause-table c =
     ∙ ap₂ (λ ms b. stepped ms b (find_answer ms)) cells c.answer_of.ensures in
     refused cs a c.args.to.now (find_answer cs)
     (λ e. c.if-verdict-eq0.false (ap (λ v. v.number) verdict ∙ e))
+
+pub returns-then-verdict-eq0-clause-step : goal.returns-then-verdict-eq0-clause-step
+returns-then-verdict-eq0-clause-step c =
+    λ rule at. makes_step (running_seen c.args.nodes.now) rule at (answer_of c.args.answer)
+
+pub returns-else-verdict-eq0-clause-step : goal.returns-else-verdict-eq0-clause-step
+returns-else-verdict-eq0-clause-step c =
+    λ rule at. makes_step (running_seen c.args.nodes.now) rule at (answer_of c.args.answer)
