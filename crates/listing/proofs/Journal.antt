@@ -8,7 +8,7 @@ use Rattle.finder.specs.declared.rules.Rule.{Rule}
 use Rattle.finder.specs.declared.rules.Rule.TheVariants.{Function, Pair, Then, Else, Prepare, Read, Gates}
 use Rattle.finder.specs.declared.faults.FindFault.{FindFault}
 use Rattle.registers.specs.Journal.{Reel, tape_changes}
-use Rattle.registers.specs.Meaning.{Meaning, after_let_go}
+use Rattle.registers.specs.Meaning.{Meaning, after_prepare, after_gate, after_read, after_let_go}
 use Rattle.registers.specs.Telling.{Told, tape_tells}
 use Rattle.stepper.specs.Naming.{dropped, names}
 use Rattle.stepper.specs.Next.{next_cells}
@@ -18,7 +18,7 @@ use Rattle.controller.specs.declared.faults.ControllerFault.{ControllerFault}
 use Rattle.controller.specs.declared.faults.ControllerFault.TheVariants.{NoRule, TooLong}
 use Rattle.controller.specs.declared.faults.Refusal.{Refusal}
 use Rattle.controller.specs.declared.faults.Stop.TheVariants.{Value, Budget}
-use Rattle.controller.specs.Asking.{after_asked, asked}
+use Rattle.controller.specs.Asking.{after_asked, asked, bit_asked, qubit_asked, request, if_ok}
 use Rattle.controller.specs.Faults.{ready_answer}
 use Rattle.controller.specs.Letting.{released, released_all}
 use Rattle.controller.specs.Meant.{Standing, after_step}
@@ -38,15 +38,19 @@ ok_is e = cc
 abbrev pub entries : Meaning Reel → ℕ
 entries m = length m.content.entries
 
+if_ok_keeps : {A F : Type 0} (x : Result A F) (m : Meaning Reel) (f : A → Meaning Reel) → ((a : A) → entries (f a) ≡ entries m) → entries (if_ok x m f) ≡ entries m
+if_ok_keeps (Ok a) m f keeps = keeps a
+if_ok_keeps (Err e) m f keeps = refl
+
 module _ (r : Told Reel) (cs : List TermCell) where
   asked_keeps : (rule : Rule) → entries (after_asked r cs tape_changes rule) ≡ entries r.meaning
   asked_keeps Function = refl
   asked_keeps Pair = refl
   asked_keeps Then = refl
   asked_keeps Else = refl
-  asked_keeps Prepare = length-set r.meaning.content.entries _ _
-  asked_keeps Read = length-set r.meaning.content.entries _ _
-  asked_keeps Gates = length-set r.meaning.content.entries _ _
+  asked_keeps Prepare = if_ok_keeps (bit_asked cs) r.meaning (after_prepare tape_changes r.meaning r.fresh) (λ b. length-set r.meaning.content.entries _ _)
+  asked_keeps Read = if_ok_keeps (qubit_asked cs) r.meaning (λ h. after_read tape_changes r.meaning h (r.outcome h)) (λ h. length-set r.meaning.content.entries _ _)
+  asked_keeps Gates = if_ok_keeps (request cs) r.meaning (λ g. after_gate tape_changes r.meaning g.0 g.1) (λ g. length-set r.meaning.content.entries _ _)
 
 released_keeps : (hs : List ℕ) (m : Meaning Reel) → entries (released_all tape_changes hs m) ≡ entries m
 released_keeps [] m = refl
