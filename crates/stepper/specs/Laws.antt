@@ -54,9 +54,9 @@ pub record Answered {m n : Running} {e : Effect} (d : Reduces m e n) (a : Answer
   pub alike : Alike e effect
   pub answers : answer_of effect ≡ a
 
--- Where the cells mean a term in which no variable is free, the rule at the cell is the one that the
--- finder answers, and the answer fits the rule, the next cells are those of the term that a step of
--- the calculus leaves, but for claims.
+-- Where the cells mean a term in which nothing but qubits is free, the rule at the cell is the one that
+-- the finder answers, and the answer fits the rule, the next cells are those of the term that a step
+-- of the calculus leaves, but for claims.
 abbrev pub MakesStep : List TermCell → Rule → ℕ → Answer → Type 0
 MakesStep cs rule at a = (m : Running) → Means cs m → Closed m → answer cs ≡ Ok (Some (rule, at))
     → Fits rule a

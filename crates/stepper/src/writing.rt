@@ -229,8 +229,8 @@ pub fn put_next(
 /// Counts the cells of the next term, and writes it to the front of the table if that is long enough;
 /// nothing where a running term may not have so many cells, and then the table stays.
 ///
-/// The next term is that of a step where the cells mean a term in which no variable is free, the rule
-/// at the cell is the one found, and the answer fits the rule. A value is put under binders as it
+/// The next term is that of a step where the cells mean a term in which nothing but qubits is free, the
+/// rule at the cell is the one found, and the answer fits the rule. A value is put under binders as it
 /// stands, so a variable that is free in it may come to be bound there, where a step raises it. An
 /// answer to a rule that asks for none is disregarded; to another rule its cell stands for the redex,
 /// whichever it is.
