@@ -1,5 +1,5 @@
 -- Steps that ask the register for nothing, of a term that names no qubit.
-use Rattle.std.proofs.Common.{◌≡◌, ℕ, zero, suc, ◌+◌, ◌-◌, ◌≤◌, Bool, true, false, not, cond, ◌&&◌, ◌==◌, nat_lt, nat_le, List, [], ◌∷◌, length, drop, filter, Some, None, Ok, Err, Option, Result, refl, sym, ap, ◌∙◌, subst, arith}
+use Rattle.std.proofs.Common.{◌≡◌, ℕ, zero, suc, ◌+◌, ◌-◌, Bool, true, false, not, cond, ◌&&◌, ◌==◌, nat_lt, nat_le, List, [], ◌∷◌, length, drop, filter, Some, None, Ok, Err, Option, Result, refl, sym, ap, ◌∙◌, subst, arith}
 use Rattle.std.proofs.lemmas.Bool.{false≢true, ltb-true, leb-true, lt-leb, le-ltb}
 use Rattle.std.proofs.lemmas.Option.{none-some}
 use Rattle.std.specs.List.{range_with_len}
@@ -143,14 +143,17 @@ silent_step a ds e = by (answer a.shot.cells) refl e
         let advances : advanced tape_changes r cs rule at ≡ Ok t =
         ap (λ b. cond b (Err NoRule) (cond (nat_lt 1024 (length nx)) (Err TooLong) (made_or_fault tape_changes r cs rule at (asked r (drop at cs) rule)))) inside
         ∙ ap (λ b. cond b (Err TooLong) (made_or_fault tape_changes r cs rule at (asked r (drop at cs) rule))) fits
-        ∙ ap (made_or_fault tape_changes r cs rule at) same.0 in
-        (after_step tape_changes a t, p.same, record {
-          kinds = refl;
-          register = kept;
-          runs = λ left.
-              let one : 1 + left ≡ suc left = omega arith in
-              ap (λ k. run_from tape_changes tape_tells k a) one ∙ steps_on left a rule at t q advances;
-        })
+        ∙ ap (made_or_fault tape_changes r cs rule at) same.0 in (
+          after_step tape_changes a t,
+          p.same,
+          record {
+            kinds = refl;
+            register = kept;
+            runs = λ left.
+                let one : 1 + left ≡ suc left = omega arith in
+                ap (λ k. run_from tape_changes tape_tells k a) one ∙ steps_on left a rule at t q advances;
+          },
+        )
     by (Ok None) q e = absurd (none-some ds e)
     by (Err f) q e = absurd (none-some ds e)
 
