@@ -1,5 +1,5 @@
 -- A run that spends its budget: 1,000 steps of a program that flips a bit, 200 at a time.
-use Rattle.std.proofs.Common.{◌≡◌, ℕ, false, cond, List, [], length, Some, Ok, codes, refl, ap, ◌∙◌}
+use Rattle.std.proofs.Common.{◌≡◌, false, cond, List, [], length, Some, Ok, codes, refl, ap, ◌∙◌}
 use Rattle.calculus.specs.declared.cells.TermCell.{TermCell}
 use Rattle.calculus.specs.declared.cells.TypeCell.{TypeCell}
 use Rattle.finder.specs.Finding.{answer}
@@ -11,9 +11,8 @@ use Rattle.controller.specs.Faults.{ready_answer}
 use Rattle.controller.specs.Meant.{Standing}
 use Rattle.controller.specs.Settled.{Ended, ended, after, run_from, run_if_ready, run_of}
 use Rattle.controller.specs.Unloading.{is_value}
-use Rattle.listing.specs.Listed.{value_cells, type_cells, run_begins, run_listed}
+use Rattle.listing.specs.Listed.{start_of_run, lines_of_run}
 use Rattle.listing.specs.Listing.{before_empty, run_lines}
-use Rattle.listing.proofs.Shapes.{none_collected}
 use Rattle.listing.proofs.Silent.{RunsTo, and_on, lettered, silent_run, silent_steps}
 
 -- the term before the first step, and after each 200 steps
@@ -68,15 +67,13 @@ unfolding run_from
 stops a e = ap (λ b. cond b (ended Value a) (ended Budget a)) e
 
 -- the lines of a program that begins so
-pub spent_lines : (types : List TypeCell) (terms : List TermCell) → (run_begins types terms).shot.cells ≡ after_0
-    → run_listed (run_of tape_changes tape_tells 1000 (run_begins types terms)) ≡ run_lines 1000 Budget [] [] []
+pub spent_lines : (types : List TypeCell) (terms : List TermCell) → (start_of_run types terms).shot.cells ≡ after_0
+    → lines_of_run (run_of tape_changes tape_tells 1000 (start_of_run types terms)) ≡ run_lines 1000 Budget [] [] []
 spent_lines types terms is =
-    let a = run_begins types terms in
+    let a = start_of_run types terms in
     let (b, b_is, r) = runs_on a is in
     let ready = ap (λ cs. ready_answer (length cs) (length a.work)) is in
     let none = ap (λ cs. is_value (answer cs)) b_is ∙ no_value_yet in
-    let (f, c) = none_collected b.shot none in
-    ap (λ x. run_listed (run_if_ready tape_changes tape_tells 1000 a x)) ready
-    ∙ ap (λ (e : Ended Reel). run_listed (Ok (e.made, e.stop), e.last)) (r.runs 0 ∙ ap (after 1000) (stops b none))
-    ∙ ap (λ c. run_lines 1000 Budget (type_cells b.shot c) (value_cells b.shot c) (before_empty b.register.content.entries)) c
+    ap (λ x. lines_of_run (run_if_ready tape_changes tape_tells 1000 a x)) ready
+    ∙ ap (λ (e : Ended Reel). lines_of_run (Ok (e.made, e.stop), e.last)) (r.runs 0 ∙ ap (after 1000) (stops b none))
     ∙ ap (λ (m : Meaning Reel). run_lines 1000 Budget [] [] (before_empty m.content.entries)) r.register

@@ -5,7 +5,7 @@ use Rattle.reader.specs.Pieces.{pieces}
 use Rattle.reader.specs.Stored.{text_of as ended}
 use Rattle.reader.proofs.Marks.{Lacks, glued, lone, cut_off, line_pieces}
 use Rattle.listing.specs.Back.{cut}
-use Rattle.listing.specs.Lines.{followed, text_of}
+use Rattle.listing.specs.Lines.{after_field, text_of}
 
 abbrev pub PlainField : List ℕ → Type 0
 PlainField f = Lacks 32 f × Lacks 10 f
@@ -20,7 +20,7 @@ lacks_append mark [] ys h k = k
 lacks_append mark (x ∷ xs) ys h k = (h.0, lacks_append mark xs ys h.1 k)
 
 -- one line: its fields with blanks between, and byte 10
-followed_is : (f : List ℕ) (fs : List (List ℕ)) → f ++ followed fs ≡ glued 32 (f ∷ fs) ++ (10 ∷ [])
+followed_is : (f : List ℕ) (fs : List (List ℕ)) → f ++ after_field fs ≡ glued 32 (f ∷ fs) ++ (10 ∷ [])
 followed_is f [] = refl
 followed_is f (g ∷ fs) = ap (λ bs. f ++ (32 ∷ bs)) (followed_is g fs) ∙ sym (append_assoc f (32 ∷ glued 32 (g ∷ fs)) (10 ∷ []))
 

@@ -1,6 +1,7 @@
 pub mod Budget
 mod Counted
 mod Cutting
+mod Ending
 mod Listed
 mod Plain
 mod Journal

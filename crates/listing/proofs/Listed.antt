@@ -1,5 +1,5 @@
 -- What a shot comes to is listed as the listing of its text says.
-use Rattle.std.proofs.Common.{◌≡◌, ℕ, Bool, true, false, ◌∷◌, [], ◌++◌, cond, map, min, List, get_or, length, take, drop, replicate, Some, None, Ok, Err, Option, Result, refl, sym, ap, ap₂, ◌∙◌, subst, arith}
+use Rattle.std.proofs.Common.{◌≡◌, ℕ, ◌≤◌, ◌∷◌, [], ◌++◌, map, min, is_ok, List, get_or, length, take, drop, replicate, Some, None, Ok, Err, Option, Result, refl, sym, ap, ap₂, ◌∙◌, subst, arith}
 use Rattle.std.proofs.lemmas.List.{take_all, take_at, length-replicate}
 use Rattle.calculus.specs.Cells.{blank, kind_cell}
 use Rattle.calculus.specs.declared.cells.TermCell.{TermCell}
@@ -16,13 +16,10 @@ use Rattle.registers.specs.declared.journal.Entry.TheVariants.{Empty}
 use Rattle.registers.specs.declared.tape.Tape.{Tape}
 use Rattle.controller.specs.declared.faults.Refusal.{Refusal}
 use Rattle.controller.specs.declared.faults.Stop.{Stop}
-use Rattle.controller.specs.declared.faults.ControllerFault.TheVariants.{NothingLoaded, NoValue, ShortTables}
-use Rattle.controller.specs.Faults.{refused}
 use Rattle.controller.specs.Loading.{load_answer}
-use Rattle.controller.proofs.Running.{ok_err}
 use Rattle.controller.specs.Meant.{Standing}
 use Rattle.controller.specs.Settled.{run_of}
-use Rattle.controller.specs.Shots.{Held, nothing_held, program_held}
+use Rattle.controller.specs.Shots.{Held, nothing_held, program_held, root_cells}
 use Rattle.controller.specs.Unloading.{collect_answer}
 use Rattle.player.specs.declared.turns.Done.TheVariants.{Loaded}
 use Rattle.player.specs.declared.turns.Turn.{Turn}
@@ -34,12 +31,14 @@ use Rattle.player.proofs.Settled.{row_settled}
 use Rattle.player.specs.Settled.{meant_stage, load_turn, run_start, run_turn, collect_turn, after_collect, turns_of}
 use Rattle.listing.specs.declared.shots.Shot.{Shot}
 use Rattle.listing.specs.Listing.{before_empty, run_lines, listing_lines}
-use Rattle.listing.specs.Listed.{value_cells, type_cells, run_listed, load_listed, check_listed, cells_listed, read_listed, text_listed}
+use Rattle.listing.proofs.Ending.{CollectedSo, collected_so, few_root}
+use Rattle.controller.specs.declared.faults.Stop.TheVariants.{Value as AtValue, Budget, Refused as StepRefused}
+use Rattle.listing.specs.Listed.{pulses_of, lines_of_run, lines_after_load, lines_after_check, lines_of_cells, lines_after_read, lines_of_text}
 use Rattle.listing.proofs.Journal.{entries, turns_keep}
 use Rattle.listing.proofs.Played.{three}
 use Rattle.listing.specs.Replies.{run_report, Reports}
 use Rattle.listing.specs.declared.replies.RunReport.{RunReport}
-use Rattle.listing.specs.Playing.{alternating, reported, Loads, RowOfShot, fresh_stage, text_read, CellsPlayed, ReadAndPlayed, TextPlayed}
+use Rattle.listing.specs.Playing.{alternating, shot_of_report, Loads, RowOfShot, fresh_stage, reading_of, CellsPlayed, ReadAndPlayed, TextPlayed}
 
 -- a stage's tables and journal, by what its tape means
 pub record Ended (end : Stage Tape) (b : Stage (Meaning Reel)) : Type 0 where
@@ -50,16 +49,6 @@ pub record Ended (end : Stage Tape) (b : Stage (Meaning Reel)) : Type 0 where
 -- a stage with new tables for a value and its type
 abbrev on_tables : Standing Reel → Stage (Meaning Reel)
 on_tables last = stage last.shot last.register last.work (replicate 1024 blank) (replicate 256 (kind_cell 0))
-
--- what is collected is counted
-counted : (h : Held) (room kind_room : ℕ) (n : ℕ × ℕ) → collect_answer h room kind_room ≡ Ok n → n ≡ (length h.cells, length h.kinds)
-counted h room kind_room n e = by _ _ _ e
-  where
-    by : (a b c : Bool) → cond a (refused NothingLoaded h.steps) (cond b (refused NoValue h.steps) (cond c (refused ShortTables h.steps) (Ok (length h.cells, length h.kinds)))) ≡ Ok n → n ≡ (length h.cells, length h.kinds)
-    by true b c e = absurd (ok_err (sym e))
-    by false true c e = absurd (ok_err (sym e))
-    by false false true e = absurd (ok_err (sym e))
-    by false false false e = cc
 
 -- the lines of equal runs
 same_lines : (n : ℕ) (p : Stop) {ks ls : List TypeCell} {xs ys : List TermCell} {es fs : List Entry} → ks ≡ ls → xs ≡ ys → es ≡ fs → run_lines n p ks xs es ≡ run_lines n p ls ys fs
@@ -88,23 +77,26 @@ so_reported (Ok n) (Ok (steps, stop)) (Err f) = refl
 so_reported (Ok n) (Ok (steps, stop)) (Ok (cells, kinds)) = refl
 
 module _ (end : Stage Tape) where
-  -- a run that was made, and what was collected of it
-  run_is_listed : (n steps : ℕ) (stop : Stop) (last : Standing Reel) (c : Result (ℕ × ℕ) Refusal) → collect_answer last.shot 1024 256 ≡ c
-      → Ended end (after_collect tape_changes tape_tells (on_tables last) c)
-      → listing_lines (reported (report_from (Ok n) (Ok (steps, stop)) c) end) ≡ run_lines steps stop (type_cells last.shot c) (value_cells last.shot c) (before_empty last.register.content.entries)
-  run_is_listed n steps stop last (Ok k) q e =
-      let count = counted last.shot 1024 256 k q in
-      let cells : take k.0 end.value ≡ last.shot.cells = ap₂ take (ap (λ (p : ℕ × ℕ). p.0) count) e.value ∙ take_at last.shot.cells _ (length last.shot.cells) refl in
-      let type : take k.1 end.kinds ≡ last.shot.kinds = ap₂ take (ap (λ (p : ℕ × ℕ). p.1) count) e.kinds ∙ take_at last.shot.kinds _ (length last.shot.kinds) refl in
-      same_lines steps stop type cells (ap before_empty e.entries)
-  run_is_listed n steps stop last (Err f) q e = ap (run_lines steps stop [] []) (ap before_empty e.entries)
+  -- a run that stopped at no value, of which nothing was collected
+  none_is_listed : (n steps : ℕ) (stop : Stop) (last : Standing Reel) (f : Refusal) → collect_answer last.shot 1024 256 ≡ Err f
+      → Ended end (after_collect tape_changes tape_tells (on_tables last) (collect_answer last.shot 1024 256))
+      → listing_lines (shot_of_report (report_from (Ok n) (Ok (steps, stop)) (collect_answer last.shot 1024 256)) end) ≡ run_lines steps stop [] [] (pulses_of last)
+  none_is_listed n steps stop last f q e =
+      let d = subst (λ c. Ended end (after_collect tape_changes tape_tells (on_tables last) c)) q e in
+      ap (λ c. listing_lines (shot_of_report (report_from (Ok n) (Ok (steps, stop)) c) end)) q ∙ ap (run_lines steps stop [] []) (ap before_empty d.entries)
 
   -- a run after a load that was made
-  ran_is_listed : (n : ℕ) (x : Result (ℕ × Stop) Refusal × Standing Reel)
+  ran_is_listed : (n : ℕ) (x : Result (ℕ × Stop) Refusal × Standing Reel) → CollectedSo x
       → Ended end (after_collect tape_changes tape_tells (on_tables x.1) (collect_answer x.1.shot 1024 256))
-      → listing_lines (reported (report_from (Ok n) x.0 (collect_answer x.1.shot 1024 256)) end) ≡ run_listed x
-  ran_is_listed n (Ok (steps, stop), last) e = run_is_listed n steps stop last (collect_answer last.shot 1024 256) refl e
-  ran_is_listed n (Err f, last) e = refl
+      → listing_lines (shot_of_report (report_from (Ok n) x.0 (collect_answer x.1.shot 1024 256)) end) ≡ lines_of_run x
+  ran_is_listed n (Ok (steps, AtValue), last) q e =
+      let d = subst (λ c. Ended end (after_collect tape_changes tape_tells (on_tables last) c)) q e in
+      let cells = ap (take (length last.shot.cells)) d.value ∙ take_at last.shot.cells _ (length last.shot.cells) refl in
+      let type = ap (take (length last.shot.kinds)) d.kinds ∙ take_at last.shot.kinds _ (length last.shot.kinds) refl in
+      ap (λ c. listing_lines (shot_of_report (report_from (Ok n) (Ok (steps, AtValue)) c) end)) q ∙ same_lines steps AtValue type cells (ap before_empty d.entries)
+  ran_is_listed n (Ok (steps, Budget), last) q e = none_is_listed n steps Budget last q.0 q.1 e
+  ran_is_listed n (Ok (steps, StepRefused f place), last) q e = none_is_listed n steps (StepRefused f place) last q.0 q.1 e
+  ran_is_listed n (Err f, last) q e = refl
 
 module _ (end : Stage Tape) where
   -- what is collected into new tables
@@ -140,26 +132,28 @@ module _ (end : Stage Tape) where
   loaded_is_listed : (types : List TypeCell) (terms : List TermCell) (x : Result ℕ Refusal) (t : Result RunReport TurnFault)
       → Ended end (collected_from (after_begin types terms x).1).1
       → Reports (Some (replied Loaded x)) (Some (after_begin types terms x).0) (Some (collected_from (after_begin types terms x).1).0) t
-      → listing_lines (reported t end) ≡ load_listed types terms x
-  loaded_is_listed types terms (Ok n) t e r =
-      let from = λ (w : List TermCell). run_of tape_changes tape_tells 1000 (record { shot = program_held types terms; register = (begin nothing_held).register; work = w }) in
-      let x : Result (ℕ × Stop) Refusal × Standing Reel = from (take 1024 (replicate 1024 blank)) in
-      let all : take 1024 (replicate 1024 blank) ≡ replicate 1024 blank = take_all 1024 (replicate 1024 blank) (let l = length-replicate 1024 blank in omega arith) in
+      → length (root_cells types terms) ≤ 256 → listing_lines (shot_of_report t end) ≡ lines_after_load types terms x
+  loaded_is_listed types terms (Ok n) t e r few =
+      let start : List TermCell → Standing Reel = λ w. record { shot = program_held types terms; register = (begin nothing_held).register; work = w } in
+      let from = λ (w : List TermCell). run_of tape_changes tape_tells 1000 (start w) in
+      let table = take 1024 (replicate 1024 blank) in
+      let x : Result (ℕ × Stop) Refusal × Standing Reel = from table in
+      let all : table ≡ replicate 1024 blank = take_all 1024 (replicate 1024 blank) (let l = length-replicate 1024 blank in omega arith) in
       let rooms = ap₂ (collect_answer x.1.shot) (room 1024 blank) (room 256 (kind_cell 0)) in
       let told = subst (λ c. Reports (Some (Ok (Loaded n))) (Some (replied as_run x.0)) (Some (replied as_collected c)) t) rooms r in
-      ap (λ t. listing_lines (reported t end)) (reported_so (Ok n) x.0 _ t told)
-      ∙ ran_is_listed end n x (collected end x.1 (x.1.work ++ drop 1024 (replicate 1024 blank)) _ _ rooms e)
-      ∙ ap run_listed (ap from all)
-  loaded_is_listed types terms (Err f) t e r = ap (λ t. listing_lines (reported t end)) r
+      ap (λ t. listing_lines (shot_of_report t end)) (reported_so (Ok n) x.0 _ t told)
+      ∙ ran_is_listed end n x (collected_so 1000 (start table) few) (collected end x.1 (x.1.work ++ drop 1024 (replicate 1024 blank)) _ _ rooms e)
+      ∙ ap lines_of_run (ap from all)
+  loaded_is_listed types terms (Err f) t e r few = ap (λ t. listing_lines (shot_of_report t end)) r
 
-  checked_is_listed : (types : List TypeCell) (terms : List TermCell) (v : Verdict) (t : Result RunReport TurnFault)
+  checked_is_listed : (types : List TypeCell) (terms : List TermCell) (v : Verdict) (t : Result RunReport TurnFault) → program_verdict types terms ≡ v
       → Ended end (collected_from (ran_from (load_turn tape_changes tape_tells types terms (begin nothing_held) v).1).1).1
       → Reports (Some (load_turn tape_changes tape_tells types terms (begin nothing_held) v).0)
       (Some (ran_from (load_turn tape_changes tape_tells types terms (begin nothing_held) v).1).0)
       (Some (collected_from (ran_from (load_turn tape_changes tape_tells types terms (begin nothing_held) v).1).1).0) t
-      → listing_lines (reported t end) ≡ check_listed types terms v
-  checked_is_listed types terms (Ok u) t e r = loaded_is_listed types terms (load_answer tape_makes nothing_held terms) t e r
-  checked_is_listed types terms (Err f) t e r = ap (λ t. listing_lines (reported t end)) r
+      → listing_lines (shot_of_report t end) ≡ lines_after_check types terms v
+  checked_is_listed types terms (Ok u) t q e r = loaded_is_listed types terms (load_answer tape_makes nothing_held terms) t e r (few_root types terms (ap is_ok q))
+  checked_is_listed types terms (Err f) t q e r = ap (λ t. listing_lines (shot_of_report t end)) r
 
 -- what the turns of a shot come to
 abbrev pub shot_turns : Turn → Meaning Reel → List Reply × Stage (Meaning Reel)
@@ -179,13 +173,13 @@ shot_replies load m = map Some (shot_turns load m).0 ++ drop (length (shot_turns
 
 pub row_is_listed : (types : List TypeCell) (terms : List TermCell) (load : Turn) (m : Meaning Reel) (replies : List (Option Reply)) (end : Stage Tape) (t : Result RunReport TurnFault)
     → Loads types terms load → m ≡ new_tape 8 (alternating 64) (replicate 64 Empty)
-    → replies ≡ shot_replies load m → Ended end (shot_turns load m).1 → TheseReport replies t → listing_lines (reported t end) ≡ cells_listed types terms
-row_is_listed types terms (Load types' terms') m replies end t l q e d r = go m q d (subst (λ ys. TheseReport ys t) e r) ∙ ap₂ cells_listed l.0 l.1
+    → replies ≡ shot_replies load m → Ended end (shot_turns load m).1 → TheseReport replies t → listing_lines (shot_of_report t end) ≡ lines_of_cells types terms
+row_is_listed types terms (Load types' terms') m replies end t l q e d r = go m q d (subst (λ ys. TheseReport ys t) e r) ∙ ap₂ lines_of_cells l.0 l.1
   where
     go : (m : Meaning Reel) → m ≡ new_tape 8 (alternating 64) (replicate 64 Empty) → Ended end (shot_turns (Load types' terms') m).1
-        → TheseReport (shot_replies (Load types' terms') m) t → listing_lines (reported t end) ≡ cells_listed types'.now terms'.now
+        → TheseReport (shot_replies (Load types' terms') m) t → listing_lines (shot_of_report t end) ≡ lines_of_cells types'.now terms'.now
     go m q d r =
-        checked_is_listed end types'.now terms'.now (program_verdict types'.now terms'.now) t
+        checked_is_listed end types'.now terms'.now (program_verdict types'.now terms'.now) t refl
         (subst (λ m. Ended end (shot_turns (Load types' terms') m).1) q d)
         (subst (λ m. TheseReport (shot_replies (Load types' terms') m) t) q r)
 row_is_listed types terms (Step room) m replies end t l q e d r = absurd l
@@ -222,7 +216,7 @@ pub row_comes_to : (tape : Tape) (load : Turn) (replies : List (Option Reply)) (
     → (replies ≡ shot_replies load (tape_meaning tape)) × (meant_stage ghosts end ≡ (shot_turns load (tape_meaning tape)).1)
 row_comes_to tape load replies end p = row_settled ghosts (fresh_stage tape) (load ∷ Run 1000 1024 ∷ Collect 1024 256 ∷ []) (replicate 3 None) replies end p tape_tells (λ r. refl)
 
-pub played_is_listed : (types : List TypeCell) (terms : List TermCell) (s : Shot) → CellsPlayed ghosts types terms s → listing_lines s ≡ cells_listed types terms
+pub played_is_listed : (types : List TypeCell) (terms : List TermCell) (s : Shot) → CellsPlayed ghosts types terms s → listing_lines s ≡ lines_of_cells types terms
 played_is_listed types terms s p =
     let e = row_comes_to p.tape p.load (p.loaded ∷ p.run ∷ p.collected ∷ []) p.end p.played in
     ap listing_lines p.shot
@@ -256,7 +250,7 @@ entries_here types terms tape Abandon replies end l q p = absurd l
 pub cells_played : (types : List TypeCell) (terms : List TermCell) (tape : Tape) (load : Turn) (replies : List (Option Reply)) (end : Stage Tape) (t : Result RunReport TurnFault) (s : Shot)
     → Loads types terms load → tape_meaning tape ≡ new_tape 8 (alternating 64) (replicate 64 Empty) → length replies ≡ 3
     → RowOfShot ghosts tape load replies end
-    → Reports (get_or replies 0 None) (get_or replies 1 None) (get_or replies 2 None) t → s ≡ reported t end → CellsPlayed ghosts types terms s
+    → Reports (get_or replies 0 None) (get_or replies 1 None) (get_or replies 2 None) t → s ≡ shot_of_report t end → CellsPlayed ghosts types terms s
 cells_played types terms tape load replies end t s l q n p r e = record {
   load = load;
   loads = l;
@@ -272,9 +266,9 @@ cells_played types terms tape load replies end t s l q n p r e = record {
   shot = e;
 }
 
-read_is_listed : (x : Result (ℕ × ℕ) ReadFault) (types : List TypeCell) (terms : List TermCell) (s : Shot) → ReadAndPlayed ghosts x types terms s → listing_lines s ≡ read_listed x types terms
+read_is_listed : (x : Result (ℕ × ℕ) ReadFault) (types : List TypeCell) (terms : List TermCell) (s : Shot) → ReadAndPlayed ghosts x types terms s → listing_lines s ≡ lines_after_read x types terms
 read_is_listed (Ok n) types terms s p = played_is_listed (take n.0 types) (take n.1 terms) s p
 read_is_listed (Err f) types terms s p = ap listing_lines p
 
-pub text_is_listed : (text : List ℕ) (s : Shot) → TextPlayed ghosts text s → listing_lines s ≡ text_listed text
-text_is_listed text s p = read_is_listed (text_read text).answer (text_read text).types (text_read text).terms s p
+pub text_is_listed : (text : List ℕ) (s : Shot) → TextPlayed ghosts text s → listing_lines s ≡ lines_of_text text
+text_is_listed text s p = read_is_listed (reading_of text).answer (reading_of text).types (reading_of text).terms s p

@@ -15,7 +15,7 @@ use Rattle.registers.specs.contracts.tape.TapeRegister.TheImpl.{ghosts}
 use Rattle.arrayvec.specs.ArrayVec.{ArrayVec}
 use Rattle.registers.specs.Journal.{tape_reel}
 use Rattle.registers.specs.declared.journal.Entry.{Entry}
-use Rattle.listing.specs.Playing.{RowOfShot, reported, text_read}
+use Rattle.listing.specs.Playing.{RowOfShot, shot_of_report, reading_of}
 use Rattle.listing.specs.declared.replies.RunReport.{RunReport}
 use Rattle.listing.specs.declared.shots.Shot.TheVariants.{Ran}
 
@@ -32,7 +32,7 @@ on_new_tables tape load replies end {w = w} {v = v} {k = k} e f g p =
 -- a run with the first cells of both tables and a copy of the journal
 pub ran_is : (r : RunReport) (end : Stage Tape) {value : ArrayVec TermCell} {kinds : ArrayVec TypeCell} {journal : List Entry}
     → value.items ≡ take r.cells end.value → kinds.items ≡ take r.kind_cells end.kinds → journal ≡ (tape_reel end.register).entries
-    → Ran r.steps r.stop value kinds journal ≡ reported (Ok r) end
+    → Ran r.steps r.stop value kinds journal ≡ shot_of_report (Ok r) end
 ran_is r end {value = value} {kinds = kinds} {journal = journal} e f g =
     let value' : ArrayVec TermCell = record { items = take r.cells end.value } in
     let kinds' : ArrayVec TypeCell = record { items = take r.kind_cells end.kinds } in
@@ -49,14 +49,14 @@ three (x ∷ y ∷ z ∷ []) d e = refl
 three (x ∷ y ∷ z ∷ w ∷ ws) d e = absurd (omega (arith, e))
 
 -- a reading into new tables
-pub read_fresh : (text : List ℕ) {types : List TypeCell} {terms : List TermCell} → types ≡ replicate 256 (kind_cell 0) → terms ≡ replicate 512 blank → reading text types terms ≡ text_read text
+pub read_fresh : (text : List ℕ) {types : List TypeCell} {terms : List TermCell} → types ≡ replicate 256 (kind_cell 0) → terms ≡ replicate 512 blank → reading text types terms ≡ reading_of text
 read_fresh text e f = ap₂ (reading text) e f
 
 -- what follows of a text's tables and answer
 pub text_is : (P : Result (ℕ × ℕ) ReadFault → List TypeCell → List TermCell → Type 0) (text : List ℕ) {types types' : List TypeCell} {terms terms' : List TermCell} {answer : Result (ℕ × ℕ) ReadFault}
     → types ≡ replicate 256 (kind_cell 0) → terms ≡ replicate 512 blank
     → answer ≡ (reading text types terms).answer → types' ≡ (reading text types terms).types → terms' ≡ (reading text types terms).terms
-    → P answer types' terms' → P (text_read text).answer (text_read text).types (text_read text).terms
+    → P answer types' terms' → P (reading_of text).answer (reading_of text).types (reading_of text).terms
 text_is P text {types = types} {types' = types'} {terms = terms} {answer = answer} e f g h i p =
     let o = reading text types terms in
     subst (λ o. P o.answer o.types o.terms) (read_fresh text e f)

@@ -47,12 +47,12 @@ call (Gate gate on) = codes "G" ∷ decimal (number_of gate) ∷ map decimal (ta
 call (Read handle outcome) = codes "R" ∷ decimal handle ∷ decimal (digit_of outcome) ∷ []
 
 -- a dash fills each of the five fields of a call that is empty
-abbrev pub filled : List (List ℕ) → List (List ℕ)
-filled fields = fields ++ replicate (5 - length fields) (codes "-")
+abbrev pub with_dashes : List (List ℕ) → List (List ℕ)
+with_dashes fields = fields ++ replicate (5 - length fields) (codes "-")
 
 -- J: a pulse, and its call
 abbrev pub pulse_line : ℕ → Entry → List (List ℕ)
-pulse_line pulse entry = codes "J" ∷ decimal pulse ∷ filled (call entry)
+pulse_line pulse entry = codes "J" ∷ decimal pulse ∷ with_dashes (call entry)
 
 -- pulses count from 0
 abbrev pub pulse_lines : List Entry → List (List (List ℕ))

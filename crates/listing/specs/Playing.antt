@@ -30,13 +30,13 @@ abbrev pub alternating : ℕ → List ℕ
 alternating count = map (λ k. k % 2) (range_with_len 0 count)
 
 -- what is read of a text into new tables
-abbrev pub text_read : List ℕ → Outcome
-text_read text = reading text (replicate 256 (kind_cell 0)) (replicate 512 blank)
+abbrev pub reading_of : List ℕ → Outcome
+reading_of text = reading text (replicate 256 (kind_cell 0)) (replicate 512 blank)
 
 -- refused by the checker, at a cell, or by a call
-abbrev pub shot_of : TurnFault → Shot
-shot_of (NotAccepted f) = Refused (check_number f.reason) f.cell
-shot_of (RefusedCall r) = Refused (fault_number r.fault) r.place
+abbrev pub shot_of_fault : TurnFault → Shot
+shot_of_fault (NotAccepted f) = Refused (check_number f.reason) f.cell
+shot_of_fault (RefusedCall r) = Refused (fault_number r.fault) r.place
 
 -- The turn is the load of these cells.
 abbrev pub Loads : List TypeCell → List TermCell → Turn → Type 0
@@ -45,9 +45,9 @@ Loads types terms other = ⊥
 
 -- The shot that the replies report, from where they led: the value and its type are at the front of
 -- their tables, as many cells as were collected.
-abbrev pub reported : Result RunReport TurnFault → Stage Tape → Shot
-reported (Err f) end = shot_of f
-reported (Ok r) end =
+abbrev pub shot_of_report : Result RunReport TurnFault → Stage Tape → Shot
+shot_of_report (Err f) end = shot_of_fault f
+shot_of_report (Ok r) end =
     Ran r.steps r.stop (record { items = take r.cells end.value })
     (record { items = take r.kind_cells end.kinds }) (tape_reel end.register).entries
 
@@ -76,7 +76,7 @@ module _ (kind : Ghosts Tape) where
     pub played : RowOfShot tape load (loaded ∷ run ∷ collected ∷ []) end
     pub report : Result RunReport TurnFault
     pub reports : Reports loaded run collected report
-    pub shot : s ≡ reported report end
+    pub shot : s ≡ shot_of_report report end
 
   -- A text that is no stored program is refused by the reader; the cells of any other are played.
   abbrev pub ReadAndPlayed : Result (ℕ × ℕ) ReadFault → List TypeCell → List TermCell → Shot
@@ -85,4 +85,4 @@ module _ (kind : Ghosts Tape) where
   ReadAndPlayed (Ok n) types terms s = CellsPlayed (take n.0 types) (take n.1 terms) s
 
   abbrev pub TextPlayed : List ℕ → Shot → Type 0
-  TextPlayed text s = let r = text_read text in ReadAndPlayed r.answer r.types r.terms s
+  TextPlayed text s = let r = reading_of text in ReadAndPlayed r.answer r.types r.terms s

@@ -9,7 +9,7 @@ use Rattle.finder.specs.Laws.{Means}
 use Rattle.controller.specs.declared.faults.ControllerFault.{ControllerFault}
 use Rattle.controller.specs.declared.faults.Stop.TheVariants.{Value as AtValue, Budget, Refused}
 use Rattle.registers.specs.declared.journal.Entry.{Entry}
-use Rattle.listing.specs.Listed.{text_listed}
+use Rattle.listing.specs.Listed.{lines_of_text}
 use Rattle.listing.specs.Listing.{refusal_line, run_lines, steps_line}
 
 -- A listing has one of four shapes: of a program that was not loaded, of a run to a value of the
@@ -29,7 +29,7 @@ TellsCell [] = ⊥
 TellsCell (letter ∷ fields) = (letter ≡ codes "T") ⊎ (letter ≡ codes "M")
 
 pub record ListingsHaveShapes : Type 0 where
-  pub shape : (text : List ℕ) → Shape (text_listed text)
+  pub shape : (text : List ℕ) → Shape (lines_of_text text)
   -- a line of a cell stands only where the S line has stop 0
-  pub only_for_a_value : (text : List ℕ) (line : List (List ℕ)) → Contains (text_listed text) line
-      → TellsCell line → (steps : ℕ) × Contains (text_listed text) (steps_line steps AtValue)
+  pub only_for_a_value : (text : List ℕ) (line : List (List ℕ)) → Contains (lines_of_text text) line
+      → TellsCell line → (steps : ℕ) × Contains (lines_of_text text) (steps_line steps AtValue)

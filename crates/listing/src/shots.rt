@@ -6,9 +6,9 @@ ghost use Rattle.controller.specs.Faults.{fault_number};
 ghost use Rattle.reader.specs.Faults.{number_of as read_number};
 ghost use Rattle.verdict.specs.Faults.{number_of as check_number};
 ghost use Rattle.listing.specs.declared.shots.Shot.TheVariants.{Refused};
-ghost use Rattle.listing.specs.Listed.{cells_listed, listing_of};
+ghost use Rattle.listing.specs.Listed.{lines_of_cells, listing_of};
 ghost use Rattle.listing.specs.Listing.{listing_lines, listing_text};
-ghost use Rattle.listing.specs.Playing.{alternating, shot_of, CellsPlayed, TextPlayed};
+ghost use Rattle.listing.specs.Playing.{alternating, shot_of_fault, CellsPlayed, TextPlayed};
 
 use crate::replies::report_of;
 use arrayvec::ArrayVec;
@@ -84,7 +84,7 @@ impl From<Refusal> for Shot {
 }
 
 impl From<TurnFault> for Shot {
-    ghost from_gives = { λ f s. s ≡ shot_of f };
+    ghost from_gives = { λ f s. s ≡ shot_of_fault f };
 
     fn from(fault: TurnFault) -> Shot {
         match fault {
@@ -129,7 +129,7 @@ fn copy_of(journal: &[Entry]) -> [Entry; PULSES]
 // contract: every place that the row leads through is sound.
 fn play_cells(types: &[TypeCell], terms: &[TermCell]) -> Shot
     ensures played { CellsPlayed ⟦<Tape<'static> as Register>⟧ types.now terms.now result }
-    ensures listed { listing_lines result ≡ cells_listed types.now terms.now }
+    ensures listed { listing_lines result ≡ lines_of_cells types.now terms.now }
 {
     let outcomes = outcomes();
     let mut journal = [Entry::Empty; PULSES];

@@ -1,8 +1,8 @@
 //! Reads a stored program from standard input, plays its shot and prints the listing.
 #![tactic(auto)]
 
-ghost use Rattle.std.specs.Prelude.{◌≡◌, ◌≤◌, length, take, drop, IfOk, IfSome, OnOk, Some};
-ghost use Rattle.listing.specs.Listed.{listing_of};
+ghost use Rattle.std.specs.Prelude.{◌≡◌, ◌≤◌, ℕ, length, take, drop, IfOk, IfSome, OnOk, OnErr, Some};
+ghost use Rattle.listing.specs.Listed.{listing_of_input, most_bytes};
 
 use listing::{Listing, MOST_BYTES, listing, play_text};
 use std::io;
@@ -16,6 +16,8 @@ fn read_input<R: Read>(input: &mut R, buffer: &mut [u8]) -> io::Result<usize>
         (λ all. take n buffer.new ≡ take (length buffer.old) all)) }
     ensures rest { OnOk result (IfSome (R.remaining input.old)
         (λ all. R.remaining input.new ≡ Some (drop (length buffer.old) all))) }
+    ensures no_further { OnErr result (IfSome (R.remaining input.old) (λ all.
+        (n : ℕ) × (n ≤ length buffer.old) × (R.remaining input.new ≡ Some (drop n all)))) }
 {
     let mut filled = 0;
     while filled < buffer.len() {
@@ -31,9 +33,11 @@ fn read_input<R: Read>(input: &mut R, buffer: &mut [u8]) -> io::Result<usize>
 // The listing of what a reader gives, which is read no further than a text may go.
 fn listing_of_input<R: Read>(input: &mut R) -> io::Result<Listing>
     ensures listing { IfOk result (λ printed. IfSome (R.remaining input.old)
-        (λ all. printed.bytes ≡ listing_of (take MOST_BYTES all))) }
+        (λ all. printed.bytes ≡ listing_of_input all)) }
     ensures rest { OnOk result (IfSome (R.remaining input.old)
-        (λ all. R.remaining input.new ≡ Some (drop MOST_BYTES all))) }
+        (λ all. R.remaining input.new ≡ Some (drop most_bytes all))) }
+    ensures no_further { OnErr result (IfSome (R.remaining input.old) (λ all.
+        (n : ℕ) × (n ≤ most_bytes) × (R.remaining input.new ≡ Some (drop n all)))) }
 {
     let mut text = [0; MOST_BYTES];
     let len = read_input(input, &mut text)?;

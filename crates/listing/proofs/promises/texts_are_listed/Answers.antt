@@ -5,19 +5,19 @@ use Rattle.registers.specs.Journal.{tape_changes}
 use Rattle.registers.specs.Telling.{tape_tells}
 use Rattle.controller.specs.Settled.{run_from, run_of}
 use Rattle.listing.specs.Lines.{text_of}
-use Rattle.listing.specs.Listed.{listing_of, run_begins, run_listed, text_listed}
-use Rattle.listing.specs.Playing.{text_read}
-use Rattle.listing.specs.Shots.{TextsAreListed, coin, coin_lines, empty, leading_zero, no_such_gate, gate_on_a_bit, ninth_qubit, ninth_qubit_lines, flips, stored, printed}
+use Rattle.listing.specs.Listed.{listing_of, start_of_run, lines_of_run, lines_of_text}
+use Rattle.listing.specs.Playing.{reading_of}
+use Rattle.listing.specs.Shots.{flips, stored, printed}
 use Rattle.listing.proofs.Budget.{spent_lines}
 use Rattle.listing.proofs.promises.texts_are_listed.Goals as goal
 
 flips_listed : listing_of (stored flips) ≡ printed (codes "S 1000 1/" ∷ [])
 unfolding digits
 flips_listed =
-    let r = text_read (stored flips) in
+    let r = reading_of (stored flips) in
     let types = take 14 r.types in
     let terms = take 71 r.terms in
-    let runs : text_listed (stored flips) ≡ run_listed (run_of tape_changes tape_tells 1000 (run_begins types terms)) = refl in
+    let runs : lines_of_text (stored flips) ≡ lines_of_run (run_of tape_changes tape_tells 1000 (start_of_run types terms)) = refl in
     ap text_of (runs ∙ spent_lines types terms refl)
 
 pub returns : goal.returns
