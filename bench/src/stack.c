@@ -1,6 +1,6 @@
 /* Measures the stack of the exported library's calls, on x86-64 Linux: a call is made instruction by instruction, and of each function
  * that is watched the lowest stack pointer is noted between its entry and its return.
- * usage: stack SYMBOLS     (SYMBOLS: a file of lines `ADDRESS NAME`, one for each function that is watched)
+ * usage: stack SYMBOLS [PROGRAM]..     (SYMBOLS: a file of lines `ADDRESS NAME`; PROGRAM: a stored program, whose run is measured)
  */
 #define _GNU_SOURCE
 #include <inttypes.h>
@@ -11,6 +11,9 @@
 #include <ucontext.h>
 
 #include "ql.h"
+
+/* Steps of the run of a shape, which takes as much in each, and of a stored program's. */
+enum { FEW_STEPS = 30, MOST_STEPS = 1000 };
 
 /* A function that is watched; a call of it is under way while `begun` is not 0. */
 struct watched {
@@ -456,24 +459,58 @@ static void print_call(const struct call *call)
     }
 }
 
-/* A whole run of each program: what it takes itself, beside its functions, and in all. */
-static void print_runs(void)
+/* A whole run of the program that was made: what it takes itself, beside its functions, and in all. */
+static void print_run(const char *name, uint64_t budget)
 {
     static ql_node value[QL_MOST_RUNNING_CELLS];
     static uint32_t kinds[QL_MOST_TYPE_CELLS];
     static ql_pulse pulses[QL_TAPE_PULSES];
-    static uint8_t outcomes[QL_TAPE_PULSES];
-    printf("\n%-34s %8s %8s %8s %8s %8s\n", "run, of 30 steps at most", "itself", "check", "find", "next", "ql_run");
+    uint8_t outcomes[QL_TAPE_PULSES];
+    for (unsigned k = 0; k < QL_TAPE_PULSES; k++)
+        outcomes[k] = k % 2;
+    forget();
+    step(1);
+    ql_run(letters, type_cells, nodes, term_cells, outcomes, QL_TAPE_PULSES, budget, value,
+           QL_MOST_RUNNING_CELLS, kinds, QL_MOST_TYPE_CELLS, pulses, QL_TAPE_PULSES);
+    step(0);
+    printf("%-34s %8zu %8zu %8zu %8zu %8zu\n", name, between, watched[CHECK].deepest, watched[FIND].deepest,
+           watched[NEXT].deepest, watched[WHOLE_RUN].deepest);
+}
+
+/* Reads a stored program, which becomes the one that was made. */
+static int read_program(const char *name)
+{
+    static uint8_t text[1 << 14];
+    FILE *input = fopen(name, "rb");
+    if (!input) {
+        perror(name);
+        return 0;
+    }
+    size_t len = fread(text, 1, sizeof text, input);
+    fclose(input);
+    ql_verdict verdict = ql_read(text, len, letters, QL_MOST_TYPE_CELLS, nodes, QL_MOST_TERM_CELLS);
+    if (verdict.number != QL_DONE)
+        refused(name, verdict);
+    type_cells = verdict.type_cells;
+    term_cells = verdict.term_cells;
+    return 1;
+}
+
+/* The runs of the programs of every shape, and of the stored ones. */
+static int print_runs(char **names)
+{
+    printf("\n%-34s %8s %8s %8s %8s %8s\n", "run", "itself", "check", "find", "next", "ql_run");
     for (size_t i = 0; i < sizeof programs / sizeof *programs; i++) {
         programs[i].make(programs[i].levels);
-        forget();
-        step(1);
-        ql_run(letters, type_cells, nodes, term_cells, outcomes, QL_TAPE_PULSES, 30, value,
-               QL_MOST_RUNNING_CELLS, kinds, QL_MOST_TYPE_CELLS, pulses, QL_TAPE_PULSES);
-        step(0);
-        printf("%-34s %8zu %8zu %8zu %8zu %8zu\n", programs[i].name, between, watched[CHECK].deepest,
-               watched[FIND].deepest, watched[NEXT].deepest, watched[WHOLE_RUN].deepest);
+        print_run(programs[i].name, FEW_STEPS);
     }
+    for (; *names; names++) {
+        const char *slash = strrchr(*names, '/');
+        if (!read_program(*names))
+            return 0;
+        print_run(slash ? slash + 1 : *names, MOST_STEPS);
+    }
+    return 1;
 }
 
 /* A read, which goes from line to line and takes the same for every text. */
@@ -522,7 +559,7 @@ int main(int argc, char **argv)
     static char handlers[1 << 16];
     stack_t stack = {.ss_sp = handlers, .ss_size = sizeof handlers};
     struct sigaction action = {.sa_sigaction = on_instruction, .sa_flags = SA_SIGINFO | SA_ONSTACK};
-    if (argc != 2 || !read_symbols(argv[1]))
+    if (argc < 2 || !read_symbols(argv[1]))
         return 1;
     if (sigaltstack(&stack, NULL) != 0 || sigaction(SIGTRAP, &action, NULL) != 0) {
         perror("stack");
@@ -531,6 +568,5 @@ int main(int argc, char **argv)
     print_read();
     for (size_t i = 0; i < sizeof calls / sizeof *calls; i++)
         print_call(&calls[i]);
-    print_runs();
-    return 0;
+    return print_runs(argv + 2) ? 0 : 1;
 }
