@@ -1,9 +1,9 @@
 -- How counts and tables go on, piece by piece.
-use Rattle.std.proofs.Common.{◌≡◌, ℕ, suc, ◌+◌, ◌-◌, ◌<◌, ◌≤◌, cond, leb, List, [], ◌∷◌, ◌++◌, length, get_or, take, drop, Some, None, Option, sym, refl, ap, ap₂, ◌∙◌, add-zero, arith}
+use Rattle.std.proofs.Common.{◌≡◌, ℕ, suc, ◌+◌, ◌-◌, ◌<◌, ◌≤◌, cond, leb, List, [], ◌∷◌, ◌++◌, length, get_or, set, take, drop, Some, None, Option, sym, refl, ap, ap₂, ◌∙◌, add-zero, arith}
 use Rattle.std.specs.Borrow.{Bor}
 use Rattle.std.proofs.Math.Seq.{take-append-add}
-use Rattle.std.proofs.lemmas.List.{append-nil, length-append, length-take, length-take-le, length-drop, take_all, take-append-drop, take-append-le, same_lists, places}
-use Rattle.std.proofs.lemmas.Bool.{le-leb, lt-leb}
+use Rattle.std.proofs.lemmas.List.{append-nil, length-append, length-take, length-take-le, length-drop, take_all, take-append-drop, take-append-le, length-set, get_or-set_same, same_lists, places}
+use Rattle.std.proofs.lemmas.Bool.{cases_eq, le-leb, lt-leb}
 use Rattle.std.proofs.lemmas.Bool.Decides.{nat_tests}
 use Rattle.calculus.specs.Cells.{blank}
 use Rattle.calculus.specs.Letters.{letter, arity}
@@ -40,6 +40,9 @@ count_over n xs ys e = many n (xs ++ ys) (omega (arith, too_many n xs e, length-
 
 overlaid_length : (t : List TermCell) (n : ℕ) (cs : List TermCell) → length (overlaid t n cs) ≡ length t
 overlaid_length t n cs = grind (arith, length-append, length-take, length-drop)
+
+pub one_over : (t : List TermCell) (n : ℕ) (c : TermCell) → n < length t → set t n c ≡ overlaid t n (c ∷ [])
+one_over t n c l = same_lists _ _ (length-set t n c ∙ sym (overlaid_length t n (c ∷ []))) (λ k d h. grind (arith, places, cases_eq k n, get_or-set_same {A = TermCell}))
 
 -- cells are written one after the other
 written_more : (t xs ys : List TermCell) (n : ℕ) → overlaid (overlaid t n xs) (n + length xs) ys ≡ overlaid t n (xs ++ ys)

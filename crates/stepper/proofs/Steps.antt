@@ -1,10 +1,10 @@
 -- Steps of the calculus are made on cells.
-use Rattle.std.proofs.Common.{◌≡◌, ℕ, ◌≤◌, Some, Ok, subst, ◌+◌, true, false, List, [], ◌∷◌, ◌++◌, map, length, take, drop, sym, refl, ap, ap₂, ◌∙◌, arith}
+use Rattle.std.proofs.Common.{◌≡◌, ℕ, ◌≤◌, subst, ◌+◌, true, false, List, [], ◌∷◌, ◌++◌, map, length, take, drop, sym, refl, ap, ap₂, ◌∙◌, arith}
 use Rattle.std.proofs.lemmas.List.{append_assoc, append-nil, length-append, take_at, drop_at}
 use Rattle.calculus.specs.Types.{Ty}
 use Rattle.calculus.specs.Terms.{bit_of, held, var, const, app, pair, if_then_else, let_pair, size, Running, free_fun, free_arg, free_left, free_right, free_test, free_pair}
 use Rattle.calculus.specs.Names.{WellTyped}
-use Rattle.calculus.specs.Cells.{running_cells, unclaimed, cell_of}
+use Rattle.calculus.specs.Cells.{running_cells, cell_of}
 use Rattle.calculus.specs.Reduction.{Effect, prepares, reads, Reduces, apply_function, open_pair, take_then, take_else, prepare_qubit, read_qubit, apply_gate, in_argument, in_function, in_left, in_right, in_condition, in_pair}
 use Rattle.calculus.specs.Safety.{Alike, alike_silent, alike_prepares, alike_reads, alike_applies}
 use Rattle.calculus.specs.declared.cells.TermCell.{TermCell}

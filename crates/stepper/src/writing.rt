@@ -66,6 +66,15 @@ fn overlay(table: &mut [TermCell], at: usize, cells: &[TermCell])
     }
 }
 
+// Writes a cell at a place of a table, if the table goes so far.
+fn overlay_one(table: &mut [TermCell], at: usize, cell: TermCell)
+    ensures { table.new ≡ overlaid table.old at (cell ∷ []) }
+{
+    if at < table.len() {
+        table[at] = cell;
+    }
+}
+
 // Cells that are put at the front of a table, one behind the other: they are counted, and written as
 // far as the table goes. There are never more than a running term may have. An empty table has cells
 // only counted.
@@ -86,7 +95,7 @@ impl Front<'_> {
         if self.len >= MOST_RUNNING_CELLS {
             return None;
         }
-        overlay(self.table, self.len, &[cell]);
+        overlay_one(self.table, self.len, cell);
         self.len += 1;
         Some(())
     }
