@@ -1,6 +1,11 @@
 //! Types drawn at random, each with closed values, and the types of the constants.
 
 ghost use Rattle.std.specs.Prelude.{◌≡◌, ◌<◌, IfOk};
+ghost use Rattle.calculus.specs.Cells.{const_op, const_argument};
+ghost use Rattle.calculus.specs.Stripping.{marks};
+ghost use Rattle.calculus.specs.Terms.{type_of};
+ghost use Rattle.kinds.specs.Kinds.{kind_type};
+ghost use Rattle.samples.specs.Constants.{const_of};
 
 use crate::random::Random;
 use calculus::Gate;
@@ -34,7 +39,9 @@ pub const GATE_COUNT: usize = 8;
 
 impl Function {
     /// The op and the argument of the constant's cell.
-    pub fn cell(self) -> (char, u16) {
+    pub fn cell(self) -> (char, u16)
+        ensures { result ≡ (const_op (const_of self), const_argument (const_of self)) }
+    {
         match self {
             Function::Gate(gate) => ('g', u16::from(gate)),
             Function::New => ('n', 0),
@@ -44,7 +51,7 @@ impl Function {
 
     /// The constant's own type.
     pub fn own(self, heap: Global) -> Result<Kind, AllocError>
-        ensures { IfOk result (λ k. k.marks ≡ 1) }
+        ensures { IfOk result (λ k. kind_type k ≡ type_of (const_of self)) }
     {
         match self {
             Function::Gate(gate) => {
@@ -81,7 +88,7 @@ pub fn any_kind(
     depth: u32,
     holds_qubits: bool,
 ) -> Result<Kind, AllocError>
-    ensures { IfOk result (λ k. k.marks < 3) }
+    ensures { IfOk result (λ k. marks (kind_type k) < 3) }
 {
     let marks = any_marks(random);
     let choice = random.below(if depth == 0 { 6 } else { 15 });

@@ -2,6 +2,7 @@
 
 use crate::any::{FUNCTIONS, Function, GATE_COUNT};
 use crate::makers::{Maker, Task, arrow};
+use crate::sides::{Side, beside};
 use kinds::{Head, Kind, is_below};
 use std::alloc::AllocError;
 
@@ -76,7 +77,10 @@ impl<'r> Maker<'r> {
                 self.emit(op, 0, kind)
             }
             Head::Unit => self.emit('s', 0, kind),
-            Head::Qubit => self.applied(Function::New, &Head::Bit.marked(0), kind),
+            Head::Qubit => {
+                let bit = beside(self.heap, self.random, Side::Below, &Head::Bit.marked(0))?;
+                self.applied(Function::New, &bit, kind)
+            }
             Head::Arrow(a, b) => {
                 if self.random.chance(40) {
                     if let Some(function) = self.constant(kind)? {

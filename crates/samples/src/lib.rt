@@ -6,6 +6,7 @@ mod damage;
 mod intro;
 mod makers;
 mod random;
+mod sides;
 
 pub use damage::{any_running, damage_cells, damage_text};
 pub use makers::any_program;

@@ -4,6 +4,7 @@ ghost use Rattle.std.specs.Prelude.{◌≡◌, ◌+◌, vec_len, OnOk};
 
 use crate::any::{any_kind, any_pair};
 use crate::random::Random;
+use crate::sides::{Side, beside};
 use drafts::Draft;
 use kinds::{Head, Kind, is_below, same};
 use std::alloc::{AllocError, Global};
@@ -42,7 +43,7 @@ pub(crate) struct Maker<'r> {
     pub(crate) tasks: Vec<Task>,
     // The fuel of the parts of the term that is being made.
     pub(crate) fuel: u32,
-    // Whether spent variables may be used again.
+    // Whether spent variables may be used again, and variables at types that theirs are not below.
     pub(crate) is_careless: bool,
 }
 
@@ -121,6 +122,18 @@ impl<'r> Maker<'r> {
         self.due(&function)
     }
 
+    // A term of a type through a function whose variable is of a type below, or above where that may be.
+    fn pass(&mut self, kind: &Kind) -> Result<(), AllocError> {
+        let is_above = self.is_careless && self.random.chance(30);
+        let side = if is_above { Side::Above } else { Side::Below };
+        let own = beside(self.heap, self.random, side, kind)?;
+        self.emit('a', 0, kind)?;
+        let function = arrow(self.heap, &own, kind)?;
+        self.emit('l', 0, &function)?;
+        self.emit('v', 0, kind)?;
+        self.due(&own)
+    }
+
     // A pair of a type, split into its components.
     fn split(&mut self, kind: &Kind, pair: &Kind) -> Result<(), AllocError> {
         self.emit('d', 0, kind)?;
@@ -160,7 +173,10 @@ impl<'r> Maker<'r> {
         if fuel == 0 {
             return self.introduce(kind);
         }
-        match self.random.below(9) {
+        // Types beside others make the table long.
+        let is_passed = self.draft.types.len() < 90;
+        let is_arrow = matches!(kind.head, Head::Arrow(_, _));
+        match self.random.below(if is_arrow { 12 } else { 9 }) {
             0 | 1 => {
                 let argument = self.argument(kind)?;
                 self.apply(kind, &argument)
@@ -170,6 +186,7 @@ impl<'r> Maker<'r> {
                 self.split(kind, &pair)
             }
             4 => self.choose(kind),
+            5 | 9.. if is_passed => self.pass(kind),
             _ => self.introduce(kind),
         }
     }
@@ -199,7 +216,8 @@ impl<'r> Maker<'r> {
     }
 }
 
-/// A program whose claims follow the typing rules; a careless one may use a variable more often than it may.
+/// A program whose claims follow the typing rules; a careless one may use a variable more often than it may, or at a type that
+/// its own is not below.
 pub fn any_program(
     heap: Global,
     random: &mut Random,

@@ -1,0 +1,2 @@
+pub mod Constants
+pub mod Sides
