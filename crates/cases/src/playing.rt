@@ -14,8 +14,7 @@ use verdict::{CheckFault, CheckReason};
 #[rattlefmt::skip]
 const DOUBLED: &str = "QL 1/T b/T >/T b/T b/T >/T !/T >/T b/T b/T >/T b/T b/T >/T q/T b/T >/T q/T q/T >/T b/T q/M a 0 0/M l 0 1/M a 0 0/M a 0 1/M l 0 4/M l 0 1/M a 0 0/M v 1 1/M a 0 0/M v 1 1/M v 0 0/M l 0 5/M a 0 0/M a 0 1/M l 0 4/M l 0 1/M a 0 0/M v 1 1/M a 0 0/M v 1 1/M v 0 0/M l 0 5/M a 0 0/M a 0 1/M l 0 4/M l 0 1/M a 0 0/M v 1 1/M a 0 0/M v 1 1/M v 0 0/M l 0 5/M a 0 0/M a 0 1/M l 0 4/M l 0 1/M a 0 0/M v 1 1/M a 0 0/M v 1 1/M v 0 0/M l 0 5/M a 0 0/M a 0 1/M l 0 4/M l 0 1/M a 0 0/M v 1 1/M a 0 0/M v 1 1/M v 0 0/M l 0 5/M a 0 0/M a 0 1/M l 0 4/M l 0 1/M a 0 0/M v 1 1/M a 0 0/M v 1 1/M v 0 0/M l 0 5/M a 0 0/M a 0 1/M l 0 4/M l 0 1/M a 0 0/M v 1 1/M a 0 0/M v 1 1/M v 0 0/M l 0 5/M a 0 0/M a 0 1/M l 0 4/M l 0 1/M a 0 0/M v 1 1/M a 0 0/M v 1 1/M v 0 0/M l 0 5/M a 0 0/M a 0 1/M l 0 4/M l 0 1/M a 0 0/M v 1 1/M a 0 0/M v 1 1/M v 0 0/M l 0 5/M a 0 0/M a 0 1/M l 0 4/M l 0 1/M a 0 0/M v 1 1/M a 0 0/M v 1 1/M v 0 0/M l 0 5/M v 0 0/M v 0 0/M v 0 0/M v 0 0/M v 0 0/M v 0 0/M v 0 0/M v 0 0/M v 0 0/M v 0 0/M v 0 0/M a 0 0/M m 0 12/M a 0 13/M g 0 15/M a 0 13/M n 0 18/M 0 0 0/E 21 120/";
 
-// What is replied to a load of no term, two loads of the program, a step, two runs, a collect, and a
-// load and an abandon of what is loaded then.
+// What is replied to the turns of the row.
 const WANTED: [Option<Reply>; 9] = [
     Some(Err(TurnFault::NotAccepted(CheckFault {
         reason: CheckReason::NotWhole,
@@ -34,16 +33,11 @@ const WANTED: [Option<Reply>; 9] = [
     Some(Ok(Done::Abandoned)),
 ];
 
-#[test]
-fn a_long_run(rt: HostRuntime) -> Result<(), Fail> {
-    let text = stored(rt.alloc(), DOUBLED)?;
-    let mut types = [TypeCell::default(); MOST_TYPE_CELLS];
-    let mut terms = [TermCell::default(); MOST_TERM_CELLS];
-    let read = read(text.as_slice(), &mut types, &mut terms);
-    assert_eq!(rt; read, Ok((21, 120)));
-    let (types, terms) = (&types[..21], &terms[..120]);
-    let row = [
-        Turn::Load(types, &[]),
+// A load of no term, two loads of the program with a step between them, two runs, a collect, and a
+// load and an abandon of what is loaded then.
+fn row<'a>(types: &'a [TypeCell], none: &'a [TermCell], terms: &'a [TermCell]) -> [Turn<'a>; 9] {
+    [
+        Turn::Load(types, none),
         Turn::Load(types, terms),
         Turn::Step(MOST_RUNNING_CELLS),
         Turn::Load(types, terms),
@@ -52,7 +46,19 @@ fn a_long_run(rt: HostRuntime) -> Result<(), Fail> {
         Turn::Collect(1, 1),
         Turn::Load(types, terms),
         Turn::Abandon,
-    ];
+    ]
+}
+
+#[test]
+fn a_long_run(rt: HostRuntime) -> Result<(), Fail> {
+    let text = stored(rt.alloc(), DOUBLED)?;
+    let mut types = [TypeCell::default(); MOST_TYPE_CELLS];
+    let mut terms = [TermCell::default(); MOST_TERM_CELLS];
+    let counts = read(text.as_slice(), &mut types, &mut terms);
+    assert_eq!(rt; counts, Ok((21, 120)));
+    let types = types.get(..21).unwrap_or_default();
+    let terms = terms.get(..120).unwrap_or_default();
+    let row = row(types, &[], terms);
     let mut work = [TermCell::default(); MOST_RUNNING_CELLS];
     let mut value = [TermCell::default(); 1];
     let mut kinds = [TypeCell::default(); 1];
