@@ -32,7 +32,8 @@ StopSmall Budget = Unit {0}
 StopSmall (Refused fault steps) = Small steps
 
 -- letters of the calculus, and numbers of 64 bits
-pub record Spelled (steps : ℕ) (stop : Stop) (kinds : List TypeCell) (value : List TermCell) (journal : List Entry) : Type 0 where
+pub record Spelled (steps : ℕ) (stop : Stop) (kinds : List TypeCell) (value : List TermCell)
+    (journal : List Entry) : Type 0 where
   pub steps_small : Small steps
   pub stop_small : StopSmall stop
   pub kinds_known : AllByRecursion KindKnown kinds
@@ -42,6 +43,10 @@ pub record Spelled (steps : ℕ) (stop : Stop) (kinds : List TypeCell) (value : 
 
 pub record ReadBack : Type 0 where
   -- nothing follows the last line
-  pub runs : (steps : ℕ) (stop : Stop) (kinds : List TypeCell) (value : List TermCell) (journal : List Entry) → Spelled steps stop kinds value journal
-      → cut (text_of (run_lines steps stop kinds value journal)) ≡ run_lines steps stop kinds value journal ++ (([] ∷ []) ∷ [])
-  pub refusals : (number place : ℕ) → Small number → Small place → cut (text_of (refusal_line number place ∷ [])) ≡ refusal_line number place ∷ (([] ∷ []) ∷ [])
+  pub runs : (steps : ℕ) (stop : Stop) (kinds : List TypeCell) (value : List TermCell)
+      (journal : List Entry) → Spelled steps stop kinds value journal
+      → let lines = run_lines steps stop kinds value journal in
+      cut (text_of lines) ≡ lines ++ (([] ∷ []) ∷ [])
+  pub refusals : (number place : ℕ) → Small number → Small place
+      → let line = refusal_line number place in
+      cut (text_of (line ∷ [])) ≡ line ∷ (([] ∷ []) ∷ [])

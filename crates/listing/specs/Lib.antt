@@ -8,3 +8,4 @@ pub mod Samples
 pub mod Shapes
 pub mod Shots
 pub mod Writing
+pub mod Written

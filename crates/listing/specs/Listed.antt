@@ -1,5 +1,5 @@
--- The listing of a text, as a function: the text is read, its program is checked, loaded on a new tape
--- and run.
+-- The listing of a text, as a function: the text is read, and its program is checked, loaded on a
+-- new tape and run.
 use Rattle.std.specs.Prelude.{ℕ, List, [], ◌∷◌, replicate, take, Ok, Err, Result}
 use Rattle.calculus.specs.Cells.{blank}
 use Rattle.calculus.specs.declared.cells.TermCell.{TermCell}

@@ -1,4 +1,5 @@
--- The lines of a listing: steps and stop, the value with its type, the pulses in order, and a refusal last.
+-- The lines of a listing: steps and stop, the value with its type, the pulses in order, and a
+-- refusal last.
 use Rattle.std.specs.Prelude.{ℕ, ◌-◌, Bool, true, false, List, [], ◌∷◌, ◌++◌, map, length, take, replicate, codes, decimal}
 use Rattle.std.specs.Char.{encode_utf8}
 use Rattle.std.specs.List.{enumerate_from}
@@ -43,7 +44,8 @@ digit_of false = 0
 abbrev pub call : Entry → List (List ℕ)
 call Empty = []
 call (Prepare handle bit) = codes "P" ∷ decimal handle ∷ decimal (digit_of bit) ∷ []
-call (Gate gate on) = codes "G" ∷ decimal (number_of gate) ∷ map decimal (take (operands_of gate) on)
+call (Gate gate on) =
+    codes "G" ∷ decimal (number_of gate) ∷ map decimal (take (operands_of gate) on)
 call (Read handle outcome) = codes "R" ∷ decimal handle ∷ decimal (digit_of outcome) ∷ []
 
 -- a dash fills each of the five fields of a call that is empty
@@ -65,9 +67,11 @@ stop_lines Budget = []
 stop_lines (StepRefused fault steps) = refusal_line (fault_number fault) steps ∷ []
 
 -- the lines of a run
-abbrev pub run_lines : ℕ → Stop → List TypeCell → List TermCell → List Entry → List (List (List ℕ))
-run_lines steps stop kinds value journal =
-    steps_line steps stop ∷ (map kind_line kinds ++ (map op_line value ++ (pulse_lines journal ++ stop_lines stop)))
+abbrev pub run_lines : ℕ → Stop → List TypeCell → List TermCell → List Entry
+    → List (List (List ℕ))
+run_lines steps stop kinds value pulses =
+    steps_line steps stop ∷ (map kind_line kinds
+    ++ (map op_line value ++ (pulse_lines pulses ++ stop_lines stop)))
 
 -- the entries before the first that no pulse filled
 abbrev pub before_empty : List Entry → List Entry
@@ -78,7 +82,8 @@ before_empty (e ∷ es) = e ∷ before_empty es
 -- a refusal before the load stands alone
 abbrev pub listing_lines : Shot → List (List (List ℕ))
 listing_lines (Refused number place) = refusal_line number place ∷ []
-listing_lines (Ran steps stop value kinds journal) = run_lines steps stop kinds.items value.items (before_empty journal)
+listing_lines (Ran steps stop value kinds journal) =
+    run_lines steps stop kinds.items value.items (before_empty journal)
 
 abbrev pub listing_text : Shot → List ℕ
 listing_text shot = text_of (listing_lines shot)

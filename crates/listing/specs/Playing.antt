@@ -1,4 +1,5 @@
--- What playing a shot comes to: its text is read, its row is played on a new tape, and the shot says what was replied.
+-- What playing a shot comes to: its text is read, its row is played on a new tape, and the shot is
+-- what the replies report.
 use Rattle.std.specs.Prelude.{◌≡◌, ℕ, ◌%◌, List, [], ◌∷◌, map, replicate, take, None, Ok, Err, Option, Result}
 use Rattle.std.specs.List.{range_with_len}
 use Rattle.calculus.specs.Cells.{blank, kind_cell}
@@ -53,7 +54,9 @@ shot_of_report (Ok r) end =
 
 -- a tape and tables as a shot begins with them
 abbrev pub fresh_stage : Tape → Stage Tape
-fresh_stage tape = stage nothing_held tape (replicate 1024 blank) (replicate 1024 blank) (replicate 256 (kind_cell 0))
+fresh_stage tape =
+    stage nothing_held tape (replicate 1024 blank) (replicate 1024 blank)
+    (replicate 256 (kind_cell 0))
 
 module _ (kind : Ghosts Tape) where
   -- A load, a run of at most 1,000 steps and a collect are played on a tape, with these replies.

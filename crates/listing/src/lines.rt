@@ -1,8 +1,9 @@
 //! Writes the listing of a shot.
 
-ghost use Rattle.std.specs.Prelude.{◌≡◌, ◌+◌, ◌≤◌, ◌++◌, [], ◌∷◌, length, map, decimal, encode_utf8};
+ghost use Rattle.std.specs.Prelude.{◌≡◌, ◌+◌, ◌≤◌, ◌++◌, [], ◌∷◌, length, map, encode_utf8};
 ghost use Rattle.arrayvec.specs.ArrayString.{array_string_len};
-ghost use Rattle.listing.specs.Listing.{before_empty, code_of, steps_line, kind_line, op_line, pulse_line};
+ghost use Rattle.listing.specs.Lines.{after_field};
+ghost use Rattle.listing.specs.Listing.{before_empty, call, code_of, steps_line, with_dashes, kind_line, op_line, pulse_line};
 ghost use Rattle.listing.specs.Listing.{pulse_lines, refusal_line, stop_lines, listing_text};
 ghost use Rattle.listing.specs.Writing.{RoomFor, Appends};
 
@@ -15,6 +16,12 @@ use registers::Entry;
 
 /// Bytes that a line has at most, with its end.
 pub const LINE_BYTES: usize = "X 65535 18446744073709551615\n".len();
+
+/// Bytes that a blank and a letter take at most.
+pub const LETTER_BYTES: usize = " \u{10FFFF}".len();
+
+/// Bytes that a pulse's call takes at most, with the end of its line.
+pub const CALL_BYTES: usize = " G 65535 255 255 255\n".len();
 
 /// Lines that a listing has at most: an S line, a T line for each cell of a type, an M line for
 /// each cell of a value, a J line for each pulse, and an X line.
@@ -40,9 +47,9 @@ fn stop_code(stop: &Stop) -> u8
 // Appends a blank and a letter.
 #[tactic(auto, using(crate::proofs::Room::encoded_short))]
 fn push_letter(out: &mut Listing, letter: char)
-    requires { array_string_len out.old + 5 ≤ MOST_LISTING_BYTES }
+    requires { array_string_len out.old + LETTER_BYTES ≤ MOST_LISTING_BYTES }
     ensures text { out.new.bytes ≡ out.old.bytes ++ 32 ∷ encode_utf8 letter }
-    ensures short { array_string_len out.new ≤ array_string_len out.old + 5 }
+    ensures short { array_string_len out.new ≤ array_string_len out.old + LETTER_BYTES }
 {
     out.push(' ');
     out.push(letter);
@@ -111,23 +118,14 @@ fn push_ops(out: &mut Listing, value: &[TermCell])
     }
 }
 
-// Appends the number of a pulse, with which its line begins.
-fn push_pulse_number(out: &mut Listing, pulse: u8)
-    requires { array_string_len out.old + 5 ≤ MOST_LISTING_BYTES }
-    ensures text { out.new.bytes ≡ out.old.bytes ++ 74 ∷ 32 ∷ decimal pulse }
-    ensures short { array_string_len out.new ≤ array_string_len out.old + 5 }
-{
-    out.push('J');
-    push_number(out, pulse);
-}
-
-// Appends the line of a gate: its handles, and a dash for each that it does not take.
-fn push_gate(out: &mut Listing, pulse: u8, gate: Gate, on: [u8; 3])
-    requires { RoomFor 1 out.old }
-    ensures { Appends out.old out.new (pulse_line pulse (Entry.Gate gate on) ∷ []) }
+// Appends a gate's number and handles, and a dash for each handle that it does not take.
+fn push_gate(out: &mut Listing, gate: Gate, on: [u8; 3])
+    requires { array_string_len out.old + CALL_BYTES ≤ MOST_LISTING_BYTES }
+    ensures text { out.new.bytes
+        ≡ out.old.bytes ++ after_field (with_dashes (call (Entry.Gate gate on))) }
+    ensures short { array_string_len out.new ≤ array_string_len out.old + CALL_BYTES }
 {
     let [a, b, c] = on;
-    push_pulse_number(out, pulse);
     out.push_str(" G");
     push_number(out, u16::from(gate));
     push_number(out, a);
@@ -145,32 +143,38 @@ fn push_gate(out: &mut Listing, pulse: u8, gate: Gate, on: [u8; 3])
     }
 }
 
-// Appends the line of a pulse, with a dash for each field that its call leaves empty.
-fn push_pulse(out: &mut Listing, pulse: u8, entry: Entry)
-    requires { RoomFor 1 out.old }
-    ensures { Appends out.old out.new (pulse_line pulse entry ∷ []) }
+// Appends what a pulse did, with a dash for each field that its call leaves empty.
+fn push_call(out: &mut Listing, entry: Entry)
+    requires { array_string_len out.old + CALL_BYTES ≤ MOST_LISTING_BYTES }
+    ensures text { out.new.bytes ≡ out.old.bytes ++ after_field (with_dashes (call entry)) }
+    ensures short { array_string_len out.new ≤ array_string_len out.old + CALL_BYTES }
 {
     match entry {
         Entry::Prepare { handle, bit } => {
-            push_pulse_number(out, pulse);
             out.push_str(" P");
             push_number(out, handle);
             push_number(out, u8::from(bit));
             out.push_str(" - -\n");
         }
         Entry::Read { handle, outcome } => {
-            push_pulse_number(out, pulse);
             out.push_str(" R");
             push_number(out, handle);
             push_number(out, u8::from(outcome));
             out.push_str(" - -\n");
         }
-        Entry::Gate { gate, on } => push_gate(out, pulse, gate, on),
-        Entry::Empty => {
-            push_pulse_number(out, pulse);
-            out.push_str(" - - - - -\n");
-        }
+        Entry::Gate { gate, on } => push_gate(out, gate, on),
+        Entry::Empty => out.push_str(" - - - - -\n"),
     }
+}
+
+// Appends the line of a pulse.
+fn push_pulse(out: &mut Listing, pulse: u8, entry: Entry)
+    requires { RoomFor 1 out.old }
+    ensures { Appends out.old out.new (pulse_line pulse entry ∷ []) }
+{
+    out.push('J');
+    push_number(out, pulse);
+    push_call(out, entry);
 }
 
 // The entries of a journal up to the first that no pulse filled.

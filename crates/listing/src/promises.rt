@@ -1,4 +1,5 @@
-//! What holds of every listing, in the words of its format.
+//! What holds of every listing, in the words of its format. Each function stands for a theorem: its
+//! contract is the theorem's statement.
 
 ghost use Rattle.listing.specs.Back.{ReadBack};
 ghost use Rattle.listing.specs.Samples.{SamplesAreListed};
@@ -6,29 +7,22 @@ ghost use Rattle.listing.specs.Shapes.{ListingsHaveShapes};
 ghost use Rattle.listing.specs.Shots.{TextsAreListed};
 
 /// Sample runs have the listings that stand beside them.
-pub fn samples_are_listed() -> u8
+pub fn samples_are_listed()
     ensures { SamplesAreListed }
-{
-    0
-}
+{}
 
-/// A listing of a calculus' letters and 64-bit numbers is read back from its text, line for line and field for field.
-pub fn listings_are_read_back() -> u8
+/// A listing of a calculus' letters and 64-bit numbers is read back from its text, line for line
+/// and field for field.
+pub fn listings_are_read_back()
     ensures { ReadBack }
-{
-    0
-}
+{}
 
 /// Sample texts have the listings that stand beside them.
-pub fn texts_are_listed() -> u8
+pub fn texts_are_listed()
     ensures { TextsAreListed }
-{
-    0
-}
+{}
 
 /// Every listing has one of four shapes, and T and M stand only for a value.
-pub fn listings_have_shapes() -> u8
+pub fn listings_have_shapes()
     ensures { ListingsHaveShapes }
-{
-    0
-}
+{}

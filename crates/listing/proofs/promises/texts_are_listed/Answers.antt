@@ -7,7 +7,8 @@ use Rattle.controller.specs.Settled.{run_from, run_of}
 use Rattle.listing.specs.Lines.{text_of}
 use Rattle.listing.specs.Listed.{listing_of, start_of_run, lines_of_run, lines_of_text}
 use Rattle.listing.specs.Playing.{reading_of}
-use Rattle.listing.specs.Shots.{flips, stored, printed}
+use Rattle.listing.specs.Shots.{flips}
+use Rattle.listing.specs.Written.{stored, printed}
 use Rattle.listing.proofs.Budget.{spent_lines}
 use Rattle.listing.proofs.promises.texts_are_listed.Goals as goal
 
