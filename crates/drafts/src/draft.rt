@@ -1,6 +1,10 @@
 //! A program in the making: its two tables, and the text that stores them.
 
-ghost use Rattle.std.specs.Prelude.{◌≡◌, ◌+◌, min, length, vec_len, IfOk, OnOk};
+ghost use Rattle.std.specs.Prelude.{◌≡◌, ◌≤◌, length, min, [], ◌∷◌, ◌++◌, map, vec_len, IfOk, OnOk};
+ghost use Rattle.std.specs.Str.{chars};
+ghost use Rattle.calculus.specs.Cells.{kind_cell, type_cells, cell_of};
+ghost use Rattle.kinds.specs.Kinds.{kind_type};
+ghost use Rattle.drafts.specs.Cells.{term_cell, stands, Placed};
 
 use calculus::{TermCell, TypeCell};
 use kinds::{Kind, write_kind};
@@ -21,10 +25,18 @@ pub fn as_claim(place: usize) -> u16
     u16::try_from(place).unwrap_or(u16::MAX)
 }
 
+// Whether a type's cells stand in a table from a place on.
+fn stands_at(types: &[TypeCell], place: usize, code: &[TypeCell]) -> bool
+    requires { place ≤ length types.now }
+    ensures { result ≡ stands code.now types.now place }
+{
+    types[place..].starts_with(code)
+}
+
 impl Draft {
     /// No cells yet.
     pub fn new(heap: Global) -> Draft
-        ensures { (vec_len result.types ≡ 0) × (vec_len result.terms ≡ 0) }
+        ensures { (result.types.items ≡ []) × (result.terms.items ≡ []) }
     {
         Draft {
             heap,
@@ -35,7 +47,10 @@ impl Draft {
 
     /// A new place for a type, behind the table.
     pub fn new_place(&mut self, kind: &Kind) -> Result<u16, AllocError>
-        ensures { IfOk result (λ place. place ≡ min (vec_len self.old.types) 65535) }
+        ensures place { IfOk result (λ place. place ≡ min (vec_len self.old.types) 65535) }
+        ensures types { OnOk result (self.new.types.items
+            ≡ self.old.types.items ++ type_cells (kind_type kind.now)) }
+        ensures terms { self.new.terms ≡ self.old.terms }
     {
         let end = self.types.len();
         write_kind(kind, &mut self.types)?;
@@ -43,11 +58,15 @@ impl Draft {
     }
 
     /// The first place of the type table where a type stands, or else a new one behind the table.
-    pub fn place(&mut self, kind: &Kind) -> Result<u16, AllocError> {
+    pub fn place(&mut self, kind: &Kind) -> Result<u16, AllocError>
+        ensures place { IfOk result (λ place. Placed (type_cells (kind_type kind.now))
+            self.old.types.items self.new.types.items place) }
+        ensures terms { self.new.terms ≡ self.old.terms }
+    {
         let mut code = Vec::new(self.heap);
         write_kind(kind, &mut code)?;
         let mut places = 0..self.types.len();
-        match places.find(|&place| self.types[place..].starts_with(&code)) {
+        match places.find(|&place| stands_at(&self.types, place, &code)) {
             Some(place) => Ok(as_claim(place)),
             None => self.new_place(kind),
         }
@@ -55,7 +74,9 @@ impl Draft {
 
     /// More type cells, by their letters.
     pub fn kinds(&mut self, letters: &str) -> Result<(), AllocError>
-        ensures { self.new.terms ≡ self.old.terms }
+        ensures types { OnOk result (self.new.types.items
+            ≡ self.old.types.items ++ map kind_cell (chars letters.now)) }
+        ensures terms { self.new.terms ≡ self.old.terms }
     {
         for kind in letters.chars() {
             self.types.push(TypeCell { kind })?;
@@ -65,7 +86,9 @@ impl Draft {
 
     /// More term cells, each by its op, argument and claim.
     pub fn cells(&mut self, cells: &[(char, u16, u16)]) -> Result<(), AllocError>
-        ensures { OnOk result (vec_len self.new.terms ≡ vec_len self.old.terms + length cells.now) }
+        ensures terms { OnOk result (self.new.terms.items
+            ≡ self.old.terms.items ++ map term_cell cells.now) }
+        ensures types { self.new.types ≡ self.old.types }
     {
         for (op, argument, claim) in cells {
             self.cell(*op, *argument, *claim)?;
@@ -74,7 +97,9 @@ impl Draft {
     }
 
     /// More term cells from a text: op, argument and claim of each, with a comma and a blank between cells.
-    pub fn stored(&mut self, cells: &str) -> Result<(), AllocError> {
+    pub fn stored(&mut self, cells: &str) -> Result<(), AllocError>
+        ensures { self.new.types ≡ self.old.types }
+    {
         for cell in cells.split(',') {
             let mut fields = cell.split_whitespace();
             let (Some(op), Some(argument), Some(claim)) = (
@@ -95,7 +120,9 @@ impl Draft {
 
     /// One more term cell, which claims a place.
     pub fn cell(&mut self, op: char, argument: u16, claim: u16) -> Result<(), AllocError>
-        ensures { OnOk result (vec_len self.new.terms ≡ vec_len self.old.terms + 1) }
+        ensures terms { OnOk result (self.new.terms.items
+            ≡ self.old.terms.items ++ (cell_of op argument claim ∷ [])) }
+        ensures types { self.new.types ≡ self.old.types }
     {
         self.terms.push(TermCell {
             op,

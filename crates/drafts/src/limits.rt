@@ -1,7 +1,11 @@
 //! Programs that meet a limit, and that pass it by little, by how large they are made.
 
-ghost use Rattle.std.specs.Prelude.{◌≡◌, ◌+◌, ◌*◌, vec_len, IfOk, OnOk};
+ghost use Rattle.std.specs.Prelude.{◌≡◌, [], ◌∷◌, ◌++◌, map, replicate, vec_len, IfOk, OnOk};
+ghost use Rattle.std.specs.Str.{chars};
+ghost use Rattle.calculus.specs.Types.{bangs, bit as bit_type};
+ghost use Rattle.calculus.specs.Cells.{kind_cell, type_cells as cells_of_type, cell_of, placed_cells};
 ghost use Rattle.drafts.specs.Counts.{padded_count};
+ghost use Rattle.drafts.specs.Limits.{table, common_types, wraps, right_bit, padded_bit, zero_bit, one_bit};
 
 use crate::draft::Draft;
 use std::alloc::{AllocError, Global};
@@ -10,7 +14,8 @@ use std::alloc::{AllocError, Global};
 const COMMON: &str = "b>bb*bb!>bb>!>bbb";
 
 pub(crate) fn common(heap: Global) -> Result<Draft, AllocError>
-    ensures { IfOk result (λ draft. vec_len draft.terms ≡ 0) }
+    ensures types { IfOk result (λ draft. draft.types.items ≡ table common_types) }
+    ensures terms { IfOk result (λ draft. draft.terms.items ≡ []) }
 {
     let mut draft = Draft::new(heap);
     draft.kinds(COMMON)?;
@@ -19,7 +24,8 @@ pub(crate) fn common(heap: Global) -> Result<Draft, AllocError>
 
 // The identity on bits, so many times around the bit that follows: three cells and one step each.
 pub(crate) fn wrap(draft: &mut Draft, times: usize) -> Result<(), AllocError>
-    ensures { OnOk result (vec_len draft.new.terms ≡ vec_len draft.old.terms + 3 * times) }
+    ensures terms { OnOk result (draft.new.terms.items ≡ draft.old.terms.items ++ wraps times) }
+    ensures types { draft.new.types ≡ draft.old.types }
 {
     for _ in 0..times {
         draft.cells(&[('a', 0, 0), ('l', 0, 1), ('v', 0, 0)])?;
@@ -29,7 +35,9 @@ pub(crate) fn wrap(draft: &mut Draft, times: usize) -> Result<(), AllocError>
 
 // A bit of five cells.
 fn five(draft: &mut Draft) -> Result<(), AllocError>
-    ensures { OnOk result (vec_len draft.new.terms ≡ vec_len draft.old.terms + 5) }
+    ensures terms { OnOk result (draft.new.terms.items
+        ≡ draft.old.terms.items ++ placed_cells right_bit) }
+    ensures types { draft.new.types ≡ draft.old.types }
 {
     draft.cells(&[
         ('d', 0, 0),
@@ -42,7 +50,9 @@ fn five(draft: &mut Draft) -> Result<(), AllocError>
 
 // A bit of so many cells, or of the next count with the same remainder by 3 that such a bit has.
 pub(crate) fn padded(draft: &mut Draft, cells: usize) -> Result<(), AllocError>
-    ensures { OnOk result (vec_len draft.new.terms ≡ vec_len draft.old.terms + padded_count cells) }
+    ensures terms { OnOk result (draft.new.terms.items
+        ≡ draft.old.terms.items ++ placed_cells (padded_bit cells)) }
+    ensures types { draft.new.types ≡ draft.old.types }
 {
     match cells % 3 {
         1 => {
@@ -65,7 +75,8 @@ pub(crate) fn padded(draft: &mut Draft, cells: usize) -> Result<(), AllocError>
 
 // A bit, with a type table of these letters.
 fn bit(heap: Global, op: char, kinds: &str) -> Result<Draft, AllocError>
-    ensures { IfOk result (λ draft. vec_len draft.terms ≡ 1) }
+    ensures types { IfOk result (λ draft. draft.types.items ≡ map kind_cell (chars kinds.now)) }
+    ensures terms { IfOk result (λ draft. draft.terms.items ≡ cell_of op 0 0 ∷ []) }
 {
     let mut draft = Draft::new(heap);
     draft.kinds(kinds)?;
@@ -75,14 +86,17 @@ fn bit(heap: Global, op: char, kinds: &str) -> Result<Draft, AllocError>
 
 /// A bit, with a type table of so many cells.
 pub fn type_cells(heap: Global, cells: usize) -> Result<Draft, AllocError>
-    ensures { IfOk result (λ draft. vec_len draft.terms ≡ 1) }
+    ensures types { IfOk result (λ draft. draft.types.items ≡ replicate cells (kind_cell 98)) }
+    ensures terms { IfOk result (λ draft. draft.terms.items ≡ placed_cells zero_bit) }
 {
     bit(heap, '0', &"b".repeat(heap, cells)?)
 }
 
 /// A bit of so many term cells: of 1, 4, 5, 7, 8 or more than 9.
 pub fn term_cells(heap: Global, cells: usize) -> Result<Draft, AllocError>
-    ensures { IfOk result (λ draft. vec_len draft.terms ≡ padded_count cells) }
+    ensures count { IfOk result (λ draft. vec_len draft.terms ≡ padded_count cells) }
+    ensures types { IfOk result (λ draft. draft.types.items ≡ table common_types) }
+    ensures terms { IfOk result (λ draft. draft.terms.items ≡ placed_cells (padded_bit cells)) }
 {
     let mut draft = common(heap)?;
     padded(&mut draft, cells)?;
@@ -91,7 +105,9 @@ pub fn term_cells(heap: Global, cells: usize) -> Result<Draft, AllocError>
 
 /// So many leading marks on the claim of a bit.
 pub fn marks(heap: Global, marks: usize) -> Result<Draft, AllocError>
-    ensures { IfOk result (λ draft. vec_len draft.terms ≡ 1) }
+    ensures types { IfOk result (λ draft. draft.types.items
+        ≡ cells_of_type (bangs marks bit_type)) }
+    ensures terms { IfOk result (λ draft. draft.terms.items ≡ placed_cells one_bit) }
 {
     let mut kinds = "!".repeat(heap, marks)?;
     kinds.push('b')?;

@@ -1,7 +1,10 @@
 //! Programs whose runs meet a limit, pass it by little, or lead through much: copies, pulses, live qubits and steps.
 
-ghost use Rattle.std.specs.Prelude.{◌≡◌, ◌+◌, ◌*◌, vec_len, IfOk, OnOk};
+ghost use Rattle.std.specs.Prelude.{◌≡◌, [], ◌++◌, ◌+◌, ◌*◌, vec_len, IfOk, OnOk};
+ghost use Rattle.calculus.specs.Terms.{app, lam, pair, let_pair};
+ghost use Rattle.calculus.specs.Cells.{placed_cells};
 ghost use Rattle.drafts.specs.Counts.{function_count};
+ghost use Rattle.drafts.specs.Limits.{table, pair_types, used, padded_function, zero_bit};
 
 use crate::draft::Draft;
 use crate::limits::{common, padded, wrap};
@@ -10,7 +13,8 @@ use std::alloc::{AllocError, Global};
 
 // The table of programs that put a function into another's body: the shared types, and !(b>b)*b at 17.
 fn with_pair(heap: Global) -> Result<Draft, AllocError>
-    ensures { IfOk result (λ draft. vec_len draft.terms ≡ 0) }
+    ensures types { IfOk result (λ draft. draft.types.items ≡ table pair_types) }
+    ensures terms { IfOk result (λ draft. draft.terms.items ≡ []) }
 {
     let mut draft = common(heap)?;
     draft.kinds("*!>bbb")?;
@@ -19,7 +23,9 @@ fn with_pair(heap: Global) -> Result<Draft, AllocError>
 
 // A bit through so many uses of a variable that is a function.
 fn uses(draft: &mut Draft, times: usize, index: u16) -> Result<(), AllocError>
-    ensures { OnOk result (vec_len draft.new.terms ≡ vec_len draft.old.terms + 2 * times + 1) }
+    ensures terms { OnOk result (draft.new.terms.items
+        ≡ draft.old.terms.items ++ placed_cells (used index times)) }
+    ensures types { draft.new.types ≡ draft.old.types }
 {
     for _ in 0..times {
         draft.cells(&[('a', 0, 0), ('v', index, 1)])?;
@@ -29,7 +35,9 @@ fn uses(draft: &mut Draft, times: usize, index: u16) -> Result<(), AllocError>
 
 // A function of so many cells.
 fn function(draft: &mut Draft, cells: usize) -> Result<(), AllocError>
-    ensures { OnOk result (vec_len draft.new.terms ≡ vec_len draft.old.terms + function_count cells) }
+    ensures terms { OnOk result (draft.new.terms.items
+        ≡ draft.old.terms.items ++ placed_cells (padded_function cells)) }
+    ensures types { draft.new.types ≡ draft.old.types }
 {
     draft.cell('l', 0, 7)?;
     padded(draft, cells.saturating_sub(1))
@@ -38,7 +46,11 @@ fn function(draft: &mut Draft, cells: usize) -> Result<(), AllocError>
 /// A function of so many cells that an application puts so many times into another's body: the term after that step has one
 /// cell more than the product of the times and one more than the cells.
 pub fn applied_copies(heap: Global, times: usize, cells: usize) -> Result<Draft, AllocError>
-    ensures { IfOk result (λ draft. vec_len draft.terms ≡ 2 * times + function_count cells + 3) }
+    ensures count { IfOk result (λ draft. vec_len draft.terms
+        ≡ 2 * times + function_count cells + 3) }
+    ensures types { IfOk result (λ draft. draft.types.items ≡ table pair_types) }
+    ensures terms { IfOk result (λ draft. draft.terms.items
+        ≡ placed_cells (app 0 (lam 11 (used 0 times)) (padded_function cells))) }
 {
     let mut draft = with_pair(heap)?;
     draft.cells(&[('a', 0, 0), ('l', 0, 11)])?;
@@ -49,7 +61,11 @@ pub fn applied_copies(heap: Global, times: usize, cells: usize) -> Result<Draft,
 
 /// As `applied_copies`, but that the function is a component of a pair, and a split puts it into the body.
 pub fn split_copies(heap: Global, times: usize, cells: usize) -> Result<Draft, AllocError>
-    ensures { IfOk result (λ draft. vec_len draft.terms ≡ 2 * times + function_count cells + 4) }
+    ensures count { IfOk result (λ draft. vec_len draft.terms
+        ≡ 2 * times + function_count cells + 4) }
+    ensures types { IfOk result (λ draft. draft.types.items ≡ table pair_types) }
+    ensures terms { IfOk result (λ draft. draft.terms.items
+        ≡ placed_cells (let_pair 0 (pair 17 (padded_function cells) zero_bit) (used 1 times))) }
 {
     let mut draft = with_pair(heap)?;
     draft.cells(&[('d', 0, 0), ('p', 0, 17)])?;
