@@ -13,7 +13,8 @@ use Rattle.verdict.specs.Faults.{Verdict, number_of, fault}
 use Rattle.verdict.specs.Sheet.{Spot, HoldsFrom, Before, fault_at, Answers}
 use Rattle.verdict.specs.declared.faults.CheckFault.{CheckFault}
 use Rattle.verdict.specs.declared.faults.CheckReason.{CheckReason}
-use Rattle.verdict.specs.declared.faults.CheckReason.TheVariants.{TooManyCells, BadCell, NotWhole, ClaimOutside}
+use Rattle.verdict.specs.declared.faults.CheckReason.TheVariants.{TooManyCells, BadCell}
+use Rattle.verdict.specs.declared.faults.CheckReason.TheVariants.{NotWhole, ClaimOutside}
 
 pub data Table : Type 0 where
   type_table term_table : Table

@@ -8,7 +8,8 @@ pub use Rattle.calculus.specs.Letters.{known_kind}
 use Rattle.calculus.specs.declared.cells.TypeCell.{TypeCell}
 use Rattle.calculus.specs.declared.cells.TermCell.{TermCell}
 use Rattle.verdict.specs.Faults.{Verdict, fault, must}
-use Rattle.verdict.specs.declared.faults.CheckReason.TheVariants.{TooManyCells, BadCell, NotWhole, ClaimOutside}
+use Rattle.verdict.specs.declared.faults.CheckReason.TheVariants.{TooManyCells, BadCell}
+use Rattle.verdict.specs.declared.faults.CheckReason.TheVariants.{NotWhole, ClaimOutside}
 
 -- a cell that may stand in a program: q, the name of a qubit, may not
 abbrev pub storable : TermCell → Bool

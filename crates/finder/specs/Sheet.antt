@@ -1,6 +1,7 @@
 -- The sheet of the finder's refusals, one constructor to a row, and the order in which they are
 -- tried.
-use Rattle.std.specs.Prelude.{◌≡◌, ℕ, ◌<◌, ◌⊎◌, ◌↔◌, false, List, ◌∷◌, ◌++◌, length, Some, Ok, Err, Option, Result}
+use Rattle.std.specs.Prelude.{◌≡◌, ℕ, ◌<◌, ◌⊎◌, ◌↔◌, false, List, ◌∷◌, ◌++◌, length}
+use Rattle.std.specs.Prelude.{Some, Ok, Err, Option, Result}
 use Rattle.std.specs.List.{slice_get}
 use Rattle.calculus.specs.Cells.{placed_cells}
 use Rattle.calculus.specs.Letters.{allowed}
@@ -14,7 +15,8 @@ use Rattle.finder.specs.Laws.{Means}
 use Rattle.finder.specs.declared.rules.Rule.{Rule}
 use Rattle.finder.specs.declared.faults.FindFault.{FindFault}
 use Rattle.finder.specs.declared.faults.FindReason.{FindReason}
-use Rattle.finder.specs.declared.faults.FindReason.TheVariants.{TooManyCells, BadCell, NotWhole, NoRule}
+use Rattle.finder.specs.declared.faults.FindReason.TheVariants.{TooManyCells, BadCell, NotWhole}
+use Rattle.finder.specs.declared.faults.FindReason.TheVariants.{NoRule}
 
 -- The row of this reason holds at this cell.
 pub data Row (cells : List TermCell) : FindReason → ℕ → Type 0 where

@@ -1,9 +1,11 @@
 -- The rules by the first cells of values, which tell as much as the terms that the cells mean.
-use Rattle.std.specs.Prelude.{ℕ, Bool, true, false, cond, ◌&&◌, ◌||◌, List, [], ◌∷◌, Some, None, Option, ◌==◌}
+use Rattle.std.specs.Prelude.{ℕ, ◌==◌, Bool, true, false, cond, ◌&&◌, ◌||◌}
+use Rattle.std.specs.Prelude.{List, [], ◌∷◌, Some, None, Option}
 use Rattle.std.specs.Bool.{then_some}
 use Rattle.calculus.specs.declared.cells.TermCell.{TermCell}
 use Rattle.finder.specs.declared.rules.Rule.{Rule}
-use Rattle.finder.specs.declared.rules.Rule.TheVariants.{Function, Pair, Then, Else, Prepare, Read, Gates}
+use Rattle.finder.specs.declared.rules.Rule.TheVariants.{Function, Pair, Then, Else}
+use Rattle.finder.specs.declared.rules.Rule.TheVariants.{Prepare, Read, Gates}
 
 -- the ops of the cells begin with the letters of the word
 abbrev pub spelt : List ℕ → List TermCell → Bool

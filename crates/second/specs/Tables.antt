@@ -12,14 +12,17 @@ kind_parts kind = cond (kind == 62 || kind == 42) 2 (cond (kind == 33) 1 0)
 
 -- a letter is a kind
 abbrev pub kind_letter : ℕ → Bool
-kind_letter kind = kind == 98 || kind == 113 || kind == 117 || kind == 33 || kind == 62 || kind == 42
+kind_letter kind =
+    kind == 98 || kind == 113 || kind == 117 || kind == 33 || kind == 62 || kind == 42
 
 -- the ops whose argument is 0: the constants but gates and qubits, and those with parts
 abbrev pub bare_letter : ℕ → Bool
 bare_letter op =
-    (op == 48) || op == 49 || op == 109 || op == 110 || op == 115 || op == 108 || op == 97 || op == 112 || op == 100 || op == 105
+    (op == 48) || op == 49 || op == 109 || op == 110 || op == 115
+    || op == 108 || op == 97 || op == 112 || op == 100 || op == 105
 
--- a cell may stand: a variable with any argument, a qubit in a running term below 32, a gate below 8, others with 0
+-- a cell may stand: a variable with any argument, a qubit in a running term below 32, a gate below
+-- 8, others with 0
 abbrev pub fit_cell : TermCell → Bool → Bool
 fit_cell c running =
     cond (c.op == 118) true

@@ -1,7 +1,8 @@
 -- Stored trees: the constants by their letters.
 use Rattle.std.specs.Prelude.{ℕ, cond, Some, None, Option, ◌==◌}
 use Rattle.second.specs.declared.nodes.Constant.{Constant as Leaf}
-use Rattle.second.specs.declared.nodes.Constant.TheVariants.{Zero, One, Measure, New, Unit, Gate, Qubit}
+use Rattle.second.specs.declared.nodes.Constant.TheVariants.{Zero, One, Measure, New, Unit}
+use Rattle.second.specs.declared.nodes.Constant.TheVariants.{Gate, Qubit}
 
 -- the constant of an op letter with an argument
 abbrev pub constant_of : ℕ → ℕ → Option Leaf

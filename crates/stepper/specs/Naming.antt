@@ -1,5 +1,6 @@
 -- The qubits that cells name.
-use Rattle.std.specs.Prelude.{ℕ, Bool, true, false, cond, not, ◌&&◌, List, [], ◌∷◌, Some, None, Option, filter, ◌==◌, nat_lt}
+use Rattle.std.specs.Prelude.{ℕ, ◌==◌, nat_lt, Bool, true, false, cond, not, ◌&&◌}
+use Rattle.std.specs.Prelude.{List, [], ◌∷◌, filter, Some, None, Option}
 use Rattle.std.specs.List.{range_with_len}
 use Rattle.calculus.specs.declared.cells.TermCell.{TermCell}
 

@@ -1,5 +1,6 @@
 -- Cells written into a table.
-use Rattle.std.specs.Prelude.{ℕ, ◌+◌, ◌-◌, true, false, cond, ◌&&◌, List, ◌++◌, length, take, drop, Some, None, Option, nat_le}
+use Rattle.std.specs.Prelude.{ℕ, ◌+◌, ◌-◌, nat_le, true, false, cond, ◌&&◌}
+use Rattle.std.specs.Prelude.{List, ◌++◌, length, take, drop, Some, None, Option}
 use Rattle.calculus.specs.declared.cells.TermCell.{TermCell}
 use Rattle.stepper.specs.declared.writing.Answer.{Answer}
 use Rattle.stepper.specs.declared.writing.Answer.TheVariants.{Nothing, Handle, Outcome}
@@ -27,6 +28,9 @@ overlaid table at cs = take at table ++ (take (length table - at) cs ++ drop (at
 abbrev pub counted : List TermCell → Option ℕ
 counted cs = cond (nat_le (length cs) 1024) (Some (length cs)) None
 
--- the table with the cells at its front and its rest as it was; one that is too short, or would begin with too many cells, stays
+-- the table with the cells at its front and its rest as it was; one that is too short, or would
+-- begin with too many cells, stays
 abbrev pub fronted : List TermCell → List TermCell → List TermCell
-fronted cs table = cond (nat_le (length cs) 1024 && nat_le (length cs) (length table)) (cs ++ drop (length cs) table) table
+fronted cs table =
+    cond (nat_le (length cs) 1024 && nat_le (length cs) (length table))
+    (cs ++ drop (length cs) table) table

@@ -62,7 +62,8 @@ impl<'a> TypeAt<'a> {
     fn marked(self, marks: usize) -> TypeAt<'a>
         requires { self.marks + marks ≤ 256 + self.place }
         ensures count { result.marks ≡ self.entry.marks + marks }
-        ensures stands { (result.types.now ≡ self.entry.types.now) × (result.place ≡ self.entry.place) }
+        ensures stands { (result.types.now ≡ self.entry.types.now)
+            × (result.place ≡ self.entry.place) }
         ensures meant { meant result ≡ bangs marks (meant self.entry) }
     {
         TypeAt {
