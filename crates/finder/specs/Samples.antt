@@ -73,6 +73,6 @@ pub record SamplesHold : Type 0 where
   pub bad_handle : answer (cell_of 113 32 0 ∷ []) ≡ Err (fault BadCell 0)
   pub swap :
       answer (cell_of 97 0 0 ∷ cell_of 103 6 0
-          ∷ cell_of 112 0 0 ∷ cell_of 113 3 0 ∷ cell_of 113 5 0 ∷ [])
+      ∷ cell_of 112 0 0 ∷ cell_of 113 3 0 ∷ cell_of 113 5 0 ∷ [])
       ≡ Ok (Some (Gates, 0))
   pub too_many : answer (replicate 1025 (cell_of 120 0 0)) ≡ Err (fault TooManyCells 1024)
