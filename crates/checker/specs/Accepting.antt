@@ -1,5 +1,6 @@
 -- The verdict on a whole program, and what it decides.
 use Rattle.std.specs.Prelude.{◌≡◌, ℕ, ◌≤◌, Bool, T, ◌↔◌, List, length, is_ok}
+use Rattle.calculus.specs.declared.limits.TheConstants.{MOST_TYPE_CELLS, MOST_TERM_CELLS}
 use Rattle.calculus.specs.Cells.{placed_cells}
 use Rattle.calculus.specs.Contexts.{empty}
 use Rattle.calculus.specs.Reading.{type_at, every, TypesStand}
@@ -25,8 +26,8 @@ accepts types terms = is_ok (program_verdict types terms)
 -- term table is the cells of one term, which claims places of the type table and names no qubit.
 pub record Stores (types : List TypeCell) (terms : List TermCell) (m : Term Ty) : Type 0 where
   pub types_stand : TypesStand types
-  pub few_types : length types ≤ 256
-  pub few_terms : length terms ≤ 512
+  pub few_types : length types ≤ MOST_TYPE_CELLS
+  pub few_terms : length terms ≤ MOST_TERM_CELLS
   pub stored : T (every storable terms)
   pub claims : T (every (claim_in (length types)) terms)
   pub placed : Term ℕ

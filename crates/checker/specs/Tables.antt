@@ -1,5 +1,6 @@
 -- The tests of whole tables, types before terms, each with the first cell at fault.
 use Rattle.std.specs.Prelude.{ℕ, Bool, not, ◌&&◌, List, length, Ok, ◌==◌, nat_le, nat_lt}
+use Rattle.calculus.specs.declared.limits.TheConstants.{MOST_TYPE_CELLS, MOST_TERM_CELLS}
 use Rattle.trees.specs.Failing.{first_failing, none_at}
 use Rattle.trees.specs.Reach.{not_one_tree}
 use Rattle.trees.specs.Whole.{whole}
@@ -20,8 +21,8 @@ claim_in n c = nat_lt c.claim n
 
 abbrev pub tables_tested : List TypeCell → List TermCell → Verdict
 tables_tested types terms =
-    must (nat_le (length types) 256) (fault TooManyCells 256)
-    (must (nat_le (length terms) 512) (fault TooManyCells 512)
+    must (nat_le (length types) MOST_TYPE_CELLS) (fault TooManyCells MOST_TYPE_CELLS)
+    (must (nat_le (length terms) MOST_TERM_CELLS) (fault TooManyCells MOST_TERM_CELLS)
     (none_at (fault BadCell) (first_failing known_kind types 0)
     (none_at (fault BadCell) (first_failing storable terms 0)
     (must (whole kind_arity types) (fault NotWhole 0)

@@ -104,7 +104,7 @@ fn past_trees(ends: &[u16], terms: &[TermCell], at: usize, trees: usize) -> usiz
 
 // One past the tree at each place, found from the last place to the first.
 fn tree_ends(terms: &[TermCell]) -> [u16; MOST_TERM_CELLS]
-    requires { (TermsStand terms.now) × (length terms.now ≤ 512) }
+    requires { (TermsStand terms.now) × (length terms.now ≤ MOST_TERM_CELLS) }
     ensures { EndsFrom 0 terms.now result }
 {
     let mut ends = [0; MOST_TERM_CELLS];

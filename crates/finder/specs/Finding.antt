@@ -1,6 +1,7 @@
 -- The finder's answer: the tests of cells that may be a running term, and then what the term that
 -- they are waits for.
 use Rattle.std.specs.Prelude.{ℕ, cond, List, length, Some, None, Ok, Err, Option, Result, nat_lt}
+use Rattle.calculus.specs.declared.limits.TheConstants.{MOST_RUNNING_CELLS}
 use Rattle.trees.specs.Failing.{first_failing, none_at}
 use Rattle.trees.specs.Reach.{not_one_tree}
 use Rattle.calculus.specs.Letters.{allowed, arity}
@@ -17,7 +18,8 @@ use Rattle.finder.specs.declared.faults.FindReason.TheVariants.{NoRule}
 -- the tests of cells that may be a running term: not too many, each allowed, exactly one tree
 abbrev pub tested : List TermCell → Result (Unit {0}) FindFault
 tested cs =
-    cond (nat_lt 1024 (length cs)) (Err (fault TooManyCells 1024))
+    cond (nat_lt MOST_RUNNING_CELLS (length cs))
+      (Err (fault TooManyCells MOST_RUNNING_CELLS))
     (none_at (fault BadCell) (first_failing allowed cs 0)
     (none_at (fault NotWhole) (not_one_tree arity cs) (Ok tt)))
 

@@ -1,6 +1,7 @@
 -- The finder's search is the calculus's reduction.
 use Rattle.std.specs.Prelude.{◌≡◌, ℕ, ◌<◌, ◌+◌, ◌≤◌, T, ◌⊎◌, ◌↔◌, Some, None, Ok, Err}
 use Rattle.std.specs.Prelude.{List, [], ◌∷◌, ◌++◌, map, length, get_or, drop}
+use Rattle.calculus.specs.declared.limits.TheConstants.{MOST_RUNNING_CELLS}
 use Rattle.calculus.specs.declared.cells.TermCell.{TermCell}
 use Rattle.calculus.specs.declared.gates.Gate.{Gate}
 use Rattle.calculus.specs.declared.gates.Gate.TheVariants.{H, X, Z, S, Cnot, Swap, Toffoli}
@@ -22,7 +23,7 @@ use Rattle.finder.specs.declared.faults.FindReason.TheVariants.{NoRule}
 
 -- The cells are those of the running term but for their claims, each allowed, and not too many.
 pub record Means (cs : List TermCell) (m : Running) : Type 0 where
-  pub few : length cs ≤ 1024
+  pub few : length cs ≤ MOST_RUNNING_CELLS
   pub each_allowed : T (every allowed cs)
   pub written : unclaimed cs ≡ running_cells m
 

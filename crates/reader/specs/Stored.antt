@@ -2,6 +2,7 @@
 use Rattle.std.specs.Prelude.{◌≡◌, ◌≢◌, ℕ, ◌-◌, ◌≤◌, true, ◌⊎◌, Some, Ok, Err, Result}
 use Rattle.std.specs.Prelude.{List, [], ◌∷◌, ◌++◌, map, length, take, drop, decimal}
 use Rattle.std.specs.List.{flat_map, AllByRecursion}
+use Rattle.calculus.specs.declared.limits.TheConstants.{MOST_TYPE_CELLS, MOST_TERM_CELLS}
 use Rattle.calculus.specs.declared.cells.TermCell.{TermCell}
 use Rattle.calculus.specs.declared.cells.TypeCell.{TypeCell}
 use Rattle.reader.specs.declared.faults.ReadFault.{ReadFault}
@@ -49,8 +50,8 @@ pub record Fitting (ks : List TypeCell) (os : List TermCell)
     (ts : List TypeCell) (ms : List TermCell) : Type 0 where
   pub kinds_known : AllByRecursion KindKnown ks
   pub ops_known : AllByRecursion OpKnown os
-  pub kinds_within : (length ks ≤ 256) × (length ks ≤ length ts)
-  pub ops_within : (length os ≤ 512) × (length os ≤ length ms)
+  pub kinds_within : (length ks ≤ MOST_TYPE_CELLS) × (length ks ≤ length ts)
+  pub ops_within : (length os ≤ MOST_TERM_CELLS) × (length os ≤ length ms)
 
 -- a table that begins with these cells, its rest as it was
 abbrev pub fronted : {T : Type 0} → List T → List T → List T
@@ -85,7 +86,7 @@ Done text ts ms (Err f) us ns =
 
 -- the counts of an accepted read are within the limits and the tables
 abbrev pub Bounded : Result (ℕ × ℕ) ReadFault → List TypeCell → List TermCell → Type 0
-Bounded (Ok n) ts ms = (n.0 ≤ 256) × (n.0 ≤ length ts) × (n.1 ≤ 512) × (n.1 ≤ length ms)
+Bounded (Ok n) ts ms = (n.0 ≤ MOST_TYPE_CELLS) × (n.0 ≤ length ts) × (n.1 ≤ MOST_TERM_CELLS) × (n.1 ≤ length ms)
 Bounded (Err f) ts ms = Unit {0}
 
 -- What holds of every read.

@@ -1,6 +1,7 @@
 -- Steps of the calculus are made on cells.
 use Rattle.std.specs.Prelude.{◌≡◌, ℕ, ◌+◌, ◌<◌, ◌≤◌, Bool, true, false, Some, Ok}
 use Rattle.std.specs.Prelude.{List, [], ◌∷◌, ◌++◌, length, take, drop, map}
+use Rattle.calculus.specs.declared.limits.TheConstants.{MOST_RUNNING_CELLS}
 use Rattle.calculus.specs.Types.{Ty}
 use Rattle.calculus.specs.Terms.{bound, Running, Free}
 use Rattle.calculus.specs.Names.{WellTyped}
@@ -85,7 +86,7 @@ pub record StepLaws : Type 0 where
   -- and cells that mean the one, whatever they claim, become cells that mean the other
   pub means : (cs : List TermCell) {m n : Running} {e : Effect} (d : Reduces m e n)
       → Means cs m → Closed m → Fits (step_rule d) (answer_of e)
-      → length (next_cells cs (step_rule d) (step_cell d) (answer_of e)) ≤ 1024
+      → length (next_cells cs (step_rule d) (step_cell d) (answer_of e)) ≤ MOST_RUNNING_CELLS
       → Means (next_cells cs (step_rule d) (step_cell d) (answer_of e)) n
   -- for every answer that the register may give to the rule there is a step with it
   pub answered : {m n : Running} {e : Effect} (d : Reduces m e n) (a : Answer)

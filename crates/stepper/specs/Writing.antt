@@ -1,6 +1,7 @@
 -- Cells written into a table.
 use Rattle.std.specs.Prelude.{ℕ, ◌+◌, ◌-◌, nat_le, true, false, cond, ◌&&◌}
 use Rattle.std.specs.Prelude.{List, ◌++◌, length, take, drop, Some, None, Option}
+use Rattle.calculus.specs.declared.limits.TheConstants.{MOST_RUNNING_CELLS}
 use Rattle.calculus.specs.declared.cells.TermCell.{TermCell}
 use Rattle.stepper.specs.declared.writing.Answer.{Answer}
 use Rattle.stepper.specs.declared.writing.Answer.TheVariants.{Nothing, Handle, Outcome}
@@ -18,7 +19,8 @@ answer_cell (Outcome false) = running_cell 48 0
 
 -- the number of cells after some are put behind the first `len`, if a running term may have so many
 abbrev pub put_count : ℕ → List TermCell → Option ℕ
-put_count len cs = cond (nat_le (len + length cs) 1024) (Some (len + length cs)) None
+put_count len cs = cond (nat_le (len + length cs) MOST_RUNNING_CELLS)
+  (Some (len + length cs)) None
 
 -- a table with cells written over it from `at` on, as far as it goes
 abbrev pub overlaid : List TermCell → ℕ → List TermCell → List TermCell
@@ -26,11 +28,11 @@ overlaid table at cs = take at table ++ (take (length table - at) cs ++ drop (at
 
 -- how many cells there are, if a running term may have so many
 abbrev pub counted : List TermCell → Option ℕ
-counted cs = cond (nat_le (length cs) 1024) (Some (length cs)) None
+counted cs = cond (nat_le (length cs) MOST_RUNNING_CELLS) (Some (length cs)) None
 
 -- the table with the cells at its front and its rest as it was; one that is too short, or would
 -- begin with too many cells, stays
 abbrev pub fronted : List TermCell → List TermCell → List TermCell
 fronted cs table =
-    cond (nat_le (length cs) 1024 && nat_le (length cs) (length table))
+    cond (nat_le (length cs) MOST_RUNNING_CELLS && nat_le (length cs) (length table))
     (cs ++ drop (length cs) table) table

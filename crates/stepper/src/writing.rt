@@ -83,7 +83,7 @@ fn overlay_one(table: &mut [TermCell], at: usize, cell: TermCell)
 struct Front<'a> {
     table: &'a mut [TermCell],
     len: usize,
-    ghost few: { len ≤ 1024 },
+    ghost few: { len ≤ MOST_RUNNING_CELLS },
 }
 
 impl Front<'_> {
@@ -230,7 +230,7 @@ pub fn put_next(
 ) -> Option<usize>
     ensures answer { result ≡ counted (next_cells cells.now rule at answer) }
     ensures table { table.new
-        ≡ overlaid table.old 0 (take 1024 (next_cells cells.now rule at answer)) }
+        ≡ overlaid table.old 0 (take MOST_RUNNING_CELLS (next_cells cells.now rule at answer)) }
 {
     let (before, trees) = split_redex(cells, at);
     let mut front = Front { table, len: 0 };

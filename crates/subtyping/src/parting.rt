@@ -60,7 +60,7 @@ impl<'a> TypeAt<'a> {
 
     // The type with so many more marks in front of it.
     fn marked(self, marks: usize) -> TypeAt<'a>
-        requires { self.marks + marks ≤ 256 + self.place }
+        requires { self.marks + marks ≤ MOST_TYPE_CELLS + self.place }
         ensures count { result.marks ≡ self.entry.marks + marks }
         ensures stands { (result.types.now ≡ self.entry.types.now)
             × (result.place ≡ self.entry.place) }
