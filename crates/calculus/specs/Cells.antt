@@ -2,7 +2,8 @@
 use Rattle.std.specs.Prelude.{ℕ, true, false, List, [], ◌∷◌, ◌++◌, map}
 use Rattle.calculus.specs.Types.{Ty, bit, qbit, unit, bang, arrow, tensor}
 use Rattle.calculus.specs.Gates.{number_of}
-use Rattle.calculus.specs.Terms.{Const, bit_of, meas, new, gate, Var, bound, held, Term, var, const, star, lam, app, pair, if_then_else, let_pair, reclaimed, Running}
+use Rattle.calculus.specs.Terms.{Const, bit_of, meas, new, gate, Var, bound, held, Term, var, const}
+use Rattle.calculus.specs.Terms.{star, lam, app, pair, if_then_else, let_pair, reclaimed, Running}
 use Rattle.calculus.specs.declared.cells.TypeCell.{TypeCell}
 use Rattle.calculus.specs.declared.cells.TermCell.{TermCell}
 

@@ -1,7 +1,8 @@
 //! What each letter stands for: how many parts follow it, and which arguments it allows.
 
 ghost use Rattle.std.specs.Prelude.{◌≡◌, Some};
-ghost use Rattle.calculus.specs.Letters.{letter, shape_of, kind_parts_of, allowed, kind_arity, arity};
+ghost use Rattle.calculus.specs.Letters.{letter, shape_of, kind_parts_of};
+ghost use Rattle.calculus.specs.Letters.{allowed, kind_arity, arity};
 
 use crate::cells::{TermCell, TypeCell};
 use trees::Cell;

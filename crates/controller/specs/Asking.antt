@@ -1,12 +1,14 @@
 -- What the rule at a cell asks of the register, and the register's answer.
-use Rattle.std.specs.Prelude.{ℕ, Bool, if◌then◌else◌, List, [], ◌∷◌, Ok, Err, Result, ◌==◌, nat_lt, slice_get}
+use Rattle.std.specs.Prelude.{ℕ, Bool, if◌then◌else◌, List, [], ◌∷◌, Ok}
+use Rattle.std.specs.Prelude.{Err, Result, ◌==◌, nat_lt, slice_get}
 use Rattle.std.specs.Option.{ok_or}
 use Rattle.calculus.specs.declared.gates.Gate.{Gate}
 use Rattle.calculus.specs.declared.gates.Gate.TheVariants.{H, X, Z, S, T, Cnot, Swap, Toffoli}
 use Rattle.calculus.specs.declared.cells.TermCell.{TermCell}
 use Rattle.calculus.specs.Gates.{gate_of}
 use Rattle.finder.specs.declared.rules.Rule.{Rule}
-use Rattle.finder.specs.declared.rules.Rule.TheVariants.{Function, Pair, Then, Else, Prepare, Read, Gates}
+use Rattle.finder.specs.declared.rules.Rule.TheVariants.{Function, Pair, Then, Else}
+use Rattle.finder.specs.declared.rules.Rule.TheVariants.{Prepare, Read, Gates}
 use Rattle.registers.specs.declared.fault.RegisterFault.{RegisterFault}
 use Rattle.registers.specs.Telling.{Told}
 use Rattle.registers.specs.Meaning.{Meaning, Changes, after_prepare, after_gate, after_read}

@@ -2,7 +2,11 @@
 use Rattle.std.specs.Prelude.{ℕ, cond, Some, None, Ok, Err, Option, Result, ◌==◌, nat_lt}
 use Rattle.registers.specs.Answers.{number_of}
 use Rattle.controller.specs.declared.faults.ControllerFault.{ControllerFault}
-use Rattle.controller.specs.declared.faults.ControllerFault.TheVariants.{NothingLoaded, AlreadyLoaded, GateNotMade, ShortTable, AtValue, NoRule, TooLong, NoValue, ShortTables, Register}
+use Rattle.controller.specs.declared.faults.ControllerFault.TheVariants.{NothingLoaded}
+use Rattle.controller.specs.declared.faults.ControllerFault.TheVariants.{AlreadyLoaded, GateNotMade}
+use Rattle.controller.specs.declared.faults.ControllerFault.TheVariants.{ShortTable, AtValue}
+use Rattle.controller.specs.declared.faults.ControllerFault.TheVariants.{NoRule, TooLong, NoValue}
+use Rattle.controller.specs.declared.faults.ControllerFault.TheVariants.{ShortTables, Register}
 use Rattle.controller.specs.declared.faults.Refusal.{Refusal}
 
 abbrev pub fault_number : ControllerFault → ℕ

@@ -1,7 +1,8 @@
 //! Why a call is refused, and why a run stops.
 
 ghost use Rattle.std.specs.Prelude.{◌≡◌, if◌then◌else◌};
-ghost use Rattle.controller.specs.declared.faults.ControllerFault.TheVariants.{NoRule, Register as ofRegister};
+ghost use Rattle.controller.specs.declared.faults.ControllerFault.TheVariants.{NoRule};
+ghost use Rattle.controller.specs.declared.faults.ControllerFault.TheVariants.{Register as ofRegister};
 ghost use Rattle.controller.specs.Faults.{fault_number};
 
 use finder::FindFault;

@@ -2,7 +2,8 @@
 
 ghost use Rattle.std.specs.Prelude.{◌≡◌, ◌≤◌, map, length, take, MatchResult};
 ghost use Rattle.controller.specs.Loading.{is_made, first_unmade, load_answer};
-ghost use Rattle.controller.specs.Shots.{claiming_nothing, held, nothing_held, program_held, root_cells, root_claim};
+ghost use Rattle.controller.specs.Shots.{claiming_nothing, held, nothing_held, program_held};
+ghost use Rattle.controller.specs.Shots.{root_cells, root_claim};
 
 use crate::faults::{ControllerFault, Refusal};
 use crate::shot::{Shot, refill};
