@@ -1,5 +1,5 @@
--- What cells mean: the types and the terms that stand at their places. A table is read from its last cell to its first,
--- each cell taking as its parts the trees that were read just after it.
+-- What cells mean: the types and the terms that stand at their places. A table is read from its
+-- last cell to its first. Each cell takes as its parts the trees that were read just after it.
 use Rattle.std.specs.Prelude.{◌≡◌, ℕ, Bool, true, false, cond, ◌&&◌, T, List}
 use Rattle.std.specs.Prelude.{[], ◌∷◌, drop, Some, None, Option, ◌==◌}
 use Rattle.std.specs.List.{flat_map}
@@ -67,7 +67,9 @@ read_term at_l x c ms = lam c (top no_term ms) ∷ rest ms
 read_term at_a x c ms = app c (top no_term ms) (top no_term (rest ms)) ∷ rest (rest ms)
 read_term at_p x c ms = pair c (top no_term ms) (top no_term (rest ms)) ∷ rest (rest ms)
 read_term at_d x c ms = let_pair c (top no_term ms) (top no_term (rest ms)) ∷ rest (rest ms)
-read_term at_i x c ms = if_then_else c (top no_term ms) (top no_term (rest ms)) (top no_term (rest (rest ms))) ∷ rest (rest (rest ms))
+read_term at_i x c ms =
+    if_then_else c (top no_term ms) (top no_term (rest ms)) (top no_term (rest (rest ms)))
+    ∷ rest (rest (rest ms))
 read_term other x c ms = no_term ∷ ms
 
 -- the terms that the cells mean, one after the other, a claim being a place of the type table
@@ -95,7 +97,8 @@ TermsStand cells = T (every allowed cells) × T (whole arity cells)
 pub record ReadingLaws : Type 0 where
   pub types_written : (cs : List TypeCell) → TypesStand cs → cs ≡ flat_map type_cells (types_of cs)
   pub types_read : (ts : List Ty) → types_of (flat_map type_cells ts) ≡ ts
-  pub terms_written : (cs : List TermCell) → TermsStand cs → cs ≡ flat_map placed_cells (terms_of cs)
+  pub terms_written : (cs : List TermCell) → TermsStand cs
+      → cs ≡ flat_map placed_cells (terms_of cs)
   pub terms_read : (ms : List (Term ℕ)) → terms_of (flat_map placed_cells ms) ≡ ms
   -- equal cells are equal types
   pub same_cells : (a b : Ty) → type_cells a ≡ type_cells b → a ≡ b

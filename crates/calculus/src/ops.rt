@@ -20,7 +20,8 @@ fn shape(parts: usize, arguments: usize) -> Option<OpShape>
     Some(OpShape { parts, arguments })
 }
 
-/// The op letter alone decides the number of parts and the arguments; nothing for a letter that is no op.
+/// The op letter alone decides the number of parts and the arguments. A letter that is no op has
+/// none.
 pub fn op_shape(op: char) -> Option<OpShape>
     ensures { result ≡ shape_of (letter op) }
 {
