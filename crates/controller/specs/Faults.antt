@@ -23,7 +23,9 @@ fault_number (Register f) = number_of f.reason
 
 -- of a running term of so many cells, none where nothing is loaded, and a work table of so many
 abbrev pub ready_answer : ℕ → ℕ → Result (Unit {0}) ControllerFault
-ready_answer running work = cond (running == 0) (Err NothingLoaded) (cond (nat_lt work 1024) (Err ShortTable) (Ok tt))
+ready_answer running work =
+    cond (running == 0) (Err NothingLoaded)
+    (cond (nat_lt work 1024) (Err ShortTable) (Ok tt))
 
 -- a refused call, with its place
 abbrev pub refused : {A : Type 0} → ControllerFault → ℕ → Result A Refusal

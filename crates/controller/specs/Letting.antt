@@ -3,7 +3,8 @@ use Rattle.std.specs.Prelude.{ℕ, false, cond, List, [], ◌∷◌, slice_index
 use Rattle.registers.specs.Meaning.{Meaning, Changes, after_let_go}
 
 module _ {C : Type 0} (changes : Changes C) where
-  -- the register after letting go of a handle; one that is not live is refused, which changes nothing
+  -- The register after letting go of a handle. One that is not live is refused, which changes
+  -- nothing.
   abbrev pub released : Meaning C → ℕ → Meaning C
   released m h = cond (slice_index_or m.live h false) (after_let_go changes m h) m
 

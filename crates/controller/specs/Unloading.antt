@@ -15,7 +15,9 @@ use Rattle.controller.specs.Shots.{Held, held, nothing_held, is_loaded}
 
 -- What ending a shot leaves: nothing is held, and the register is cleared.
 abbrev pub Ends : {R : Type 0} → Ghosts R → Shot → R → R → Type 0
-Ends kind shot' register register' = (held shot' ≡ nothing_held) × (kind.meaning register' ≡ after_clear kind.changes (kind.meaning register))
+Ends kind shot' register register' =
+    (held shot' ≡ nothing_held)
+    × (kind.meaning register' ≡ after_clear kind.changes (kind.meaning register))
 
 abbrev pub abandon_answer : Held → Result (Unit {0}) Refusal
 abandon_answer h = cond (is_loaded h) (Ok tt) (refused NothingLoaded h.steps)
@@ -31,5 +33,6 @@ abbrev pub collect_answer : Held → ℕ → ℕ → Result (ℕ × ℕ) Refusal
 collect_answer h room kinds_room =
     cond (not (is_loaded h)) (refused NothingLoaded h.steps)
     (cond (not (is_value (answer h.cells))) (refused NoValue h.steps)
-    (cond (nat_lt room (length h.cells) || nat_lt kinds_room (length h.kinds)) (refused ShortTables h.steps)
+    (cond (nat_lt room (length h.cells) || nat_lt kinds_room (length h.kinds))
+    (refused ShortTables h.steps)
     (Ok (length h.cells, length h.kinds))))

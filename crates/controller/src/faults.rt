@@ -80,7 +80,8 @@ impl From<FindFault> for ControllerFault {
     }
 }
 
-/// A refused call: its fault, and the steps made since the load or, for a gate not made, the cell that names it.
+/// A refused call: its fault and its place. The place is the steps made since the load or, for a
+/// gate not made, the cell that names it.
 #[derive(Clone, Copy, PartialEq, Eq, Debug, Drop)]
 pub struct Refusal {
     pub fault: ControllerFault,
