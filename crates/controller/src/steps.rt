@@ -110,9 +110,11 @@ impl Shot {
     ) -> Result<usize, ControllerFault>
         requires { 1024 ≤ length work.old }
         ensures answer { result ≡ count_made
-            (advanced R.Register.changes (told R.Register register.old) (held self.old).cells rule at) }
+            (advanced R.Register.changes (told R.Register register.old)
+            (held self.old).cells rule at) }
         ensures state { StepLeaves R.Register
-            (advanced R.Register.changes (told R.Register register.old) (held self.old).cells rule at)
+            (advanced R.Register.changes (told R.Register register.old)
+            (held self.old).cells rule at)
             self.old self.new register.old register.new work.old work.new }
     {
         ControllerFault::NoRule.refuse_if(at >= self.cells.len())?;

@@ -119,7 +119,8 @@ fn play_turn<R: Register>(
     }
 }
 
-/// Plays a row on a new controller over a register, turn by turn, as long as there are places for replies; answers the controller.
+/// Plays a row on a new controller over a register, turn by turn, as long as there are places for
+/// replies. Answers the controller.
 pub fn play<R: Register>(
     register: R,
     row: &[Turn],
