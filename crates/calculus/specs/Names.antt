@@ -1,8 +1,8 @@
 -- The qubits that a running term names, and the ways through its branches.
 use Rattle.std.specs.Prelude.{◌≡◌, ℕ, ◌<◌, ◌⊎◌, List, [], ◌∷◌, ◌++◌, Some, None}
 use Rattle.calculus.specs.Types.{Ty, qbit}
-use Rattle.calculus.specs.Terms.{bound, held, Const, var, const, star, lam, app}
-use Rattle.calculus.specs.Terms.{pair, if_then_else, let_pair, Running, Free}
+use Rattle.calculus.specs.Terms.{bound, held, Const, var, const, star, lam, app, pair, if_then_else}
+use Rattle.calculus.specs.Terms.{let_pair, Running, Free}
 use Rattle.calculus.specs.Contexts.{Context}
 use Rattle.calculus.specs.Typing.{Derives, Unclaimed}
 

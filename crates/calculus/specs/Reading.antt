@@ -1,7 +1,7 @@
 -- What cells mean: the types and the terms that stand at their places. A table is read from its
 -- last cell to its first. Each cell takes as its parts the trees that were read just after it.
-use Rattle.std.specs.Prelude.{◌≡◌, ℕ, Bool, true, false, cond, ◌&&◌, T, List}
-use Rattle.std.specs.Prelude.{[], ◌∷◌, drop, Some, None, Option, ◌==◌}
+use Rattle.std.specs.Prelude.{◌≡◌, ℕ, Bool, true, false, cond, ◌&&◌, T, List, [], ◌∷◌, drop, Some}
+use Rattle.std.specs.Prelude.{None, Option, ◌==◌}
 use Rattle.std.specs.List.{flat_map}
 use Rattle.trees.specs.Whole.{whole}
 use Rattle.calculus.specs.declared.cells.TypeCell.{TypeCell}
@@ -13,8 +13,8 @@ use Rattle.calculus.specs.Letters.{Letter, at_v, at_q, at_g, at_0, at_1, at_m, a
 use Rattle.calculus.specs.Letters.{at_a, at_p, at_d, at_i, other, letter, allowed, arity}
 use Rattle.calculus.specs.Letters.{known_kind, kind_arity}
 use Rattle.calculus.specs.Types.{Ty, bit, qbit, unit, bang, arrow, tensor}
-use Rattle.calculus.specs.Terms.{bit_of, meas, new, gate, bound, held, Term, var, const}
-use Rattle.calculus.specs.Terms.{star, lam, app, pair, if_then_else, let_pair}
+use Rattle.calculus.specs.Terms.{bit_of, meas, new, gate, bound, held, Term, var, const, star, lam}
+use Rattle.calculus.specs.Terms.{app, pair, if_then_else, let_pair}
 use Rattle.calculus.specs.Cells.{type_cells, placed_cells}
 
 -- A list by its first element, with a default, and the others.

@@ -3,8 +3,8 @@
 use Rattle.std.specs.Prelude.{ℕ, zero, suc, ◌+◌, ◌-◌, Bool, true, false, List, [], ◌∷◌, nat_lt}
 use Rattle.calculus.specs.declared.gates.Gate.{Gate}
 use Rattle.calculus.specs.declared.gates.Gate.TheVariants.{H, X, Z, S, T, Cnot, Swap, Toffoli}
-use Rattle.calculus.specs.Terms.{Const, bit_of, meas, new, gate, Var, bound, held, var, const}
-use Rattle.calculus.specs.Terms.{star, lam, app, pair, if_then_else, let_pair, Running}
+use Rattle.calculus.specs.Terms.{Const, bit_of, meas, new, gate, Var, bound, held, var, const, star}
+use Rattle.calculus.specs.Terms.{lam, app, pair, if_then_else, let_pair, Running}
 
 -- the term with each variable that is free from the binder k on raised by n
 abbrev pub raised_var : ℕ → ℕ → Bool → ℕ → Var

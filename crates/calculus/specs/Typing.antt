@@ -3,8 +3,8 @@
 -- the rule has a type t with an equation.
 use Rattle.std.specs.Prelude.{◌≡◌, ℕ, suc, Some}
 use Rattle.calculus.specs.Types.{Ty, bit, unit, arrow, tensor, bangs, Sub}
-use Rattle.calculus.specs.Terms.{Var, Const, type_of, Term, var, const, star, lam}
-use Rattle.calculus.specs.Terms.{app, pair, if_then_else, let_pair, Free}
+use Rattle.calculus.specs.Terms.{Var, Const, type_of, Term, var, const, star, lam, app, pair}
+use Rattle.calculus.specs.Terms.{if_then_else, let_pair, Free}
 use Rattle.calculus.specs.Contexts.{Context, extended, Split, DuplicableAt}
 
 module _ {C : Type 0} (Claims : C → Ty → Type 0) where

@@ -4,9 +4,9 @@
 ghost use Rattle.calculus.specs.Erasure.{ErasureLaws};
 ghost use Rattle.calculus.specs.Lemmas.{SubtypingLaws, TypingLaws};
 ghost use Rattle.calculus.specs.Runs.{SafeRuns};
-ghost use Rattle.calculus.specs.Safety.{SubjectReduction, Progress, GatesAreApart, NoWayNamesTwice};
-ghost use Rattle.calculus.specs.Safety.{Deterministic, ValuesRest, OneRequest};
-ghost use Rattle.calculus.specs.Safety.{DuplicableValuesNameNone};
+ghost use Rattle.calculus.specs.Safety.{SubjectReduction, Progress, GatesAreApart};
+ghost use Rattle.calculus.specs.Safety.{NoWayNamesTwice, Deterministic, ValuesRest};
+ghost use Rattle.calculus.specs.Safety.{OneRequest, DuplicableValuesNameNone};
 ghost use Rattle.calculus.specs.Samples.{Judged};
 
 /// A well-typed term that takes a step keeps its type.

@@ -1,6 +1,6 @@
 -- What the rule at a cell asks of the register, and the register's answer.
-use Rattle.std.specs.Prelude.{ℕ, Bool, if◌then◌else◌, List, [], ◌∷◌, Ok}
-use Rattle.std.specs.Prelude.{Err, Result, ◌==◌, nat_lt, slice_get}
+use Rattle.std.specs.Prelude.{ℕ, Bool, if◌then◌else◌, List, [], ◌∷◌}
+use Rattle.std.specs.Prelude.{Ok, Err, Result, ◌==◌, nat_lt, slice_get}
 use Rattle.std.specs.Option.{ok_or}
 use Rattle.calculus.specs.declared.gates.Gate.{Gate}
 use Rattle.calculus.specs.declared.gates.Gate.TheVariants.{H, X, Z, S, T, Cnot, Swap, Toffoli}

@@ -1,6 +1,6 @@
 -- When a load is refused, and what it answers.
-use Rattle.std.specs.Prelude.{◌≡◌, ℕ, ◌⊎◌, Bool, true, false, cond, List, length}
-use Rattle.std.specs.Prelude.{Some, None, Ok, Err, Option, Result, ◌==◌}
+use Rattle.std.specs.Prelude.{◌≡◌, ℕ, ◌⊎◌, Bool, true, false, cond, List, length, Some, None, Ok}
+use Rattle.std.specs.Prelude.{Err, Option, Result, ◌==◌}
 use Rattle.trees.specs.Failing.{first_failing}
 use Rattle.calculus.specs.Gates.{gate_of}
 use Rattle.calculus.specs.Terms.{Term}

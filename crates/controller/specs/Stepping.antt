@@ -1,6 +1,6 @@
 -- One step: what it answers, and what it makes of the shot, the register and the work table.
-use Rattle.std.specs.Prelude.{◌≡◌, ℕ, ◌+◌, min, List, length, drop, Some, None}
-use Rattle.std.specs.Prelude.{Ok, Err, Option, Result, cond, nat_le, nat_lt}
+use Rattle.std.specs.Prelude.{◌≡◌, ℕ, ◌+◌, min, List, length, drop, Some, None, Ok, Err, Option}
+use Rattle.std.specs.Prelude.{Result, cond, nat_le, nat_lt}
 use Rattle.calculus.specs.declared.cells.TermCell.{TermCell}
 use Rattle.finder.specs.declared.rules.Rule.{Rule}
 use Rattle.finder.specs.declared.faults.FindFault.{FindFault}

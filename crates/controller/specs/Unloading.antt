@@ -1,13 +1,13 @@
 -- What abandoning and collecting answer, and what they leave.
-use Rattle.std.specs.Prelude.{◌≡◌, ℕ, Bool, true, false, cond, not, ◌||◌, length}
-use Rattle.std.specs.Prelude.{Some, None, Ok, Err, Option, Result, nat_lt}
+use Rattle.std.specs.Prelude.{◌≡◌, ℕ, Bool, true, false, cond, not, ◌||◌, length, Some, None, Ok}
+use Rattle.std.specs.Prelude.{Err, Option, Result, nat_lt}
 use Rattle.finder.specs.declared.rules.Rule.{Rule}
 use Rattle.finder.specs.declared.faults.FindFault.{FindFault}
 use Rattle.finder.specs.Finding.{answer}
 use Rattle.registers.specs.declared.register.Register.{Ghosts}
 use Rattle.registers.specs.Meaning.{after_clear}
-use Rattle.controller.specs.declared.faults.ControllerFault.TheVariants.{NothingLoaded, NoValue}
-use Rattle.controller.specs.declared.faults.ControllerFault.TheVariants.{ShortTables}
+use Rattle.controller.specs.declared.faults.ControllerFault.TheVariants.{NothingLoaded}
+use Rattle.controller.specs.declared.faults.ControllerFault.TheVariants.{NoValue, ShortTables}
 use Rattle.controller.specs.declared.faults.Refusal.{Refusal}
 use Rattle.controller.specs.Faults.{refused}
 use Rattle.controller.specs.declared.shot.Shot.{Shot}

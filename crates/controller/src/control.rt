@@ -23,8 +23,8 @@ impl<R: Register> Controller<R> {
     ghost use Rattle.rows.specs.Members.{step, run, collect, abandon};
     ghost use Rattle.registers.specs.Meaning.{after_clear};
     ghost use Rattle.registers.specs.Telling.{told};
-    ghost use Rattle.controller.specs.Calls.{IsKept, CallKeeps, LoadKeeps};
-    ghost use Rattle.controller.specs.Calls.{CallAnswers, LoadAnswers, LoadCarries, StopAnswers};
+    ghost use Rattle.controller.specs.Calls.{IsKept, CallKeeps, LoadKeeps, CallAnswers};
+    ghost use Rattle.controller.specs.Calls.{LoadAnswers, LoadCarries, StopAnswers};
     ghost use Rattle.controller.specs.Loading.{load_answer};
     ghost use Rattle.controller.specs.Meant.{standing};
     ghost use Rattle.controller.specs.Running.{RunAnswer, desk};

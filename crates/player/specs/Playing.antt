@@ -1,6 +1,6 @@
 -- What playing a row on a new controller comes to.
-use Rattle.std.specs.Prelude.{◌≡◌, ◌↔◌, true, List, [], ◌∷◌, ◌++◌, map}
-use Rattle.std.specs.Prelude.{length, drop, Some, None, Option}
+use Rattle.std.specs.Prelude.{◌≡◌, ◌↔◌, true, List, [], ◌∷◌, ◌++◌}
+use Rattle.std.specs.Prelude.{map, length, drop, Some, None, Option}
 use Rattle.registers.specs.declared.register.Register.{Ghosts}
 use Rattle.registers.specs.Meaning.{Meaning, Changes, after_clear}
 use Rattle.rows.specs.Members.{Member}

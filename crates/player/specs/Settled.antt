@@ -1,7 +1,7 @@
 -- A row on a settled kind of register, as a function of where it starts. A stage has here what its
 -- register means.
-use Rattle.std.specs.Prelude.{◌≡◌, ℕ, min, List, [], ◌∷◌, ◌++◌, map, length}
-use Rattle.std.specs.Prelude.{take, drop, Some, Ok, Err, Option, Result}
+use Rattle.std.specs.Prelude.{◌≡◌, ℕ, min, List, [], ◌∷◌, ◌++◌, map, length, take, drop, Some, Ok}
+use Rattle.std.specs.Prelude.{Err, Option, Result}
 use Rattle.calculus.specs.declared.cells.TermCell.{TermCell}
 use Rattle.calculus.specs.declared.cells.TypeCell.{TypeCell}
 use Rattle.verdict.specs.declared.faults.CheckFault.{CheckFault}
@@ -22,8 +22,8 @@ use Rattle.player.specs.declared.turns.Turn.{Turn}
 use Rattle.player.specs.declared.turns.Turn.TheVariants.{Load, Step, Run, Collect, Abandon}
 use Rattle.player.specs.declared.turns.Done.TheVariants.{Loaded, Stepped}
 use Rattle.player.specs.declared.turns.TurnFault.TheVariants.{NotAccepted}
-use Rattle.player.specs.Stages.{Reply, Stage, stage, replied, as_run, as_collected}
-use Rattle.player.specs.Stages.{as_abandoned, after_load}
+use Rattle.player.specs.Stages.{Reply, Stage, stage, replied, as_run}
+use Rattle.player.specs.Stages.{as_collected, as_abandoned, after_load}
 
 -- a stage with what its register means in place of the register
 abbrev pub meant_stage : {R : Type 0} (kind : Ghosts R) → Stage R → Stage (Meaning kind.Content)

@@ -1,14 +1,14 @@
 -- What a tape and a level owe: where there is room, the next handle is below 32 and not live.
-use Rattle.std.specs.Prelude.{◌≡◌, ℕ, zero, suc, ◌<◌, ◌≤◌, Bool, true, false, List, [], ◌∷◌}
-use Rattle.std.specs.Prelude.{length, get_or, take, drop, nat_lt, slice_index_or, refl}
+use Rattle.std.specs.Prelude.{◌≡◌, ℕ, zero, suc, ◌<◌, ◌≤◌, Bool, true, false, List, [], ◌∷◌, length}
+use Rattle.std.specs.Prelude.{get_or, take, drop, nat_lt, slice_index_or, refl}
 use Rattle.std.proofs.Common.{sym, ◌∙◌, arith, one-add, length-take, length-append}
 use Rattle.std.proofs.lemmas.List.{get_or-drop, get_or-take, length-replicate}
 use Rattle.std.proofs.lemmas.Bool.{cond_both, ltb-true}
 use Rattle.calculus.specs.declared.gates.Gate.{Gate}
 use Rattle.registers.specs.declared.handles.Handles.{Handles}
 use Rattle.registers.specs.Meaning.{Owed, counted}
-use Rattle.registers.specs.Handles.{first_free, free_from, next_free, places}
-use Rattle.registers.specs.Handles.{room, next_handle, shown}
+use Rattle.registers.specs.Handles.{first_free, free_from, next_free}
+use Rattle.registers.specs.Handles.{places, room, next_handle, shown}
 
 pub places_wide : (l : List Bool) → length (places l) ≡ 32
 places_wide l = simp (length-take, length-append) (omega (arith, length-replicate 32 false))

@@ -1,6 +1,6 @@
 -- A tape: its content, how each pulse fills the journal, and what it means.
-use Rattle.std.specs.Prelude.{ℕ, ◌+◌, ◌-◌, ◌%◌, min, Bool, true, List, []}
-use Rattle.std.specs.Prelude.{◌∷◌, length, ◌==◌, slice_index, slice_set}
+use Rattle.std.specs.Prelude.{ℕ, ◌+◌, ◌-◌, ◌%◌, min, Bool, true, List, [], ◌∷◌, length, ◌==◌}
+use Rattle.std.specs.Prelude.{slice_index, slice_set}
 use Rattle.registers.specs.declared.tape.Tape.{Tape}
 use Rattle.calculus.specs.declared.gates.Gate.{Gate}
 use Rattle.registers.specs.declared.journal.Entry.{Entry}

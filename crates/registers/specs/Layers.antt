@@ -2,13 +2,13 @@
 use Rattle.std.specs.Prelude.{◌≡◌, ℕ, min, cond, Ok, Err, Result, Option, Some, None, nat_le}
 use Rattle.std.proofs.Common.{arith}
 use Rattle.registers.specs.declared.fault.RegisterReason.{RegisterReason}
-use Rattle.registers.specs.declared.fault.RegisterReason.TheVariants.{NoPulses, Full, GateNotMade}
-use Rattle.registers.specs.declared.fault.RegisterReason.TheVariants.{WrongCount, NotLive}
-use Rattle.registers.specs.declared.fault.RegisterReason.TheVariants.{GivenTwice}
+use Rattle.registers.specs.declared.fault.RegisterReason.TheVariants.{NoPulses, Full}
+use Rattle.registers.specs.declared.fault.RegisterReason.TheVariants.{GateNotMade, WrongCount}
+use Rattle.registers.specs.declared.fault.RegisterReason.TheVariants.{NotLive, GivenTwice}
 use Rattle.registers.specs.declared.fault.RegisterFault.{RegisterFault}
 use Rattle.registers.specs.Depth.{deeper}
-use Rattle.registers.specs.Meaning.{Meaning, Changes, Owed, after_prepare, after_gate}
-use Rattle.registers.specs.Meaning.{after_read, after_let_go, after_clear}
+use Rattle.registers.specs.Meaning.{Meaning, Changes, Owed, after_prepare, after_gate, after_read}
+use Rattle.registers.specs.Meaning.{after_let_go, after_clear}
 
 -- an answer as the layer above passes it on
 abbrev pub passed_on : {A : Type 0} → Result A RegisterFault → Result A RegisterFault

@@ -1,6 +1,6 @@
 -- Which bit each handle of a level holds after accepted calls, and that a read answers it.
-use Rattle.std.specs.Prelude.{◌≡◌, ℕ, Bool, true, false, cond, not, ◌&&◌}
-use Rattle.std.specs.Prelude.{List, [], ◌∷◌, ◌==◌, slice_index}
+use Rattle.std.specs.Prelude.{◌≡◌, ℕ, Bool, true, false, cond, not}
+use Rattle.std.specs.Prelude.{◌&&◌, List, [], ◌∷◌, ◌==◌, slice_index}
 use Rattle.calculus.specs.declared.gates.Gate.{Gate}
 use Rattle.calculus.specs.declared.gates.Gate.TheVariants.{H, X, Z, S, T, Cnot, Swap, Toffoli}
 use Rattle.registers.specs.declared.level.Level.{Level}

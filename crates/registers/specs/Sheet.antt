@@ -1,12 +1,12 @@
 -- The sheet of refusals: which reasons hold for a call, and that the lowest number answers.
-use Rattle.std.specs.Prelude.{◌≡◌, ℕ, ◌<◌, ◌≤◌, Bool, false, List, length, Some}
-use Rattle.std.specs.Prelude.{None, Ok, Err, Option, Result, ◌≢◌, slice_index}
+use Rattle.std.specs.Prelude.{◌≡◌, ℕ, ◌<◌, ◌≤◌, Bool, false, List, length, Some, None, Ok, Err}
+use Rattle.std.specs.Prelude.{Option, Result, ◌≢◌, slice_index}
 use Rattle.calculus.specs.Gates.{operands_of}
 use Rattle.calculus.specs.declared.gates.Gate.{Gate}
 use Rattle.registers.specs.declared.fault.RegisterReason.{RegisterReason}
-use Rattle.registers.specs.declared.fault.RegisterReason.TheVariants.{NoPulses, Full, GateNotMade}
-use Rattle.registers.specs.declared.fault.RegisterReason.TheVariants.{WrongCount, NotLive}
-use Rattle.registers.specs.declared.fault.RegisterReason.TheVariants.{GivenTwice}
+use Rattle.registers.specs.declared.fault.RegisterReason.TheVariants.{NoPulses, Full}
+use Rattle.registers.specs.declared.fault.RegisterReason.TheVariants.{GateNotMade, WrongCount}
+use Rattle.registers.specs.declared.fault.RegisterReason.TheVariants.{NotLive, GivenTwice}
 use Rattle.registers.specs.declared.fault.RegisterFault.{RegisterFault}
 use Rattle.registers.specs.Meaning.{Meaning, Live, counted}
 use Rattle.registers.specs.Answers.{number_of, prepare_answer, gate_answer}

@@ -12,9 +12,9 @@ use Rattle.registers.specs.Layers.{Under, cap_passes_up}
 -- What a register tells: its meaning, and the answers that are its own.
 pub record Told (C : Type 0) : Type 0 where
   pub meaning : Meaning C
-  pub depth : RegisterReason → ℕ
-  pub fresh : ℕ
-  pub outcome : ℕ → Bool
+  pub depth : RegisterReason → ℕ  -- how deep a refusal for the reason is
+  pub fresh : ℕ  -- the handle of the next prepare
+  pub outcome : ℕ → Bool  -- what a read of the handle gives
 
 abbrev pub told : {R : Type 0} (kind : Ghosts R) → R → Told kind.Content
 told kind r = record {

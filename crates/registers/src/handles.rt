@@ -1,10 +1,9 @@
 //! The live handles of a register that is no layer, and which handle is answered next.
 
-ghost use Rattle.std.specs.Prelude.{◌≡◌, ◌+◌, ◌≤◌, true, false, length, take};
-ghost use Rattle.std.specs.Prelude.{MatchResult, slice_index_or};
-ghost use Rattle.registers.specs.Meaning.{counted, none_live};
-ghost use Rattle.registers.specs.Answers.{prepare_answer, gate_answer, read_allowed};
-ghost use Rattle.registers.specs.Answers.{let_go_answer, all_live};
+ghost use Rattle.std.specs.Prelude.{◌≡◌, ◌+◌, ◌≤◌, true, false, length, take, MatchResult};
+ghost use Rattle.registers.specs.Meaning.{counted, is_live, none_live};
+ghost use Rattle.registers.specs.Answers.{prepare_answer, gate_answer};
+ghost use Rattle.registers.specs.Answers.{read_allowed, let_go_answer, all_live};
 ghost use Rattle.registers.specs.Handles.{places, room, Marked, next_handle, bare, at_top};
 
 use crate::fault::{RegisterFault, RegisterReason};
@@ -40,7 +39,7 @@ impl Handles {
 
     /// Whether a handle is live.
     pub fn is_live(&self, handle: u8) -> bool
-        ensures { result ≡ slice_index_or (places self.now.live) handle false }
+        ensures { result ≡ is_live (places self.now.live) handle }
     {
         holds(&self.live, handle)
     }

@@ -1,9 +1,8 @@
 //! The calls of a register of qubits, with its meaning as ghost members.
 
-ghost use Rattle.std.specs.Prelude.{◌≡◌, ℕ, Bool, false, List, [], Option};
-ghost use Rattle.std.specs.Prelude.{MatchResult, slice_index_or};
+ghost use Rattle.std.specs.Prelude.{◌≡◌, ℕ, Bool, false, List, [], Option, MatchResult};
 ghost use Rattle.std.specs.Borrow.{GName};
-ghost use Rattle.registers.specs.Meaning.{Meaning, Changes, Owed, counted, after_prepare};
+ghost use Rattle.registers.specs.Meaning.{Meaning, Changes, Owed, counted, is_live, after_prepare};
 ghost use Rattle.registers.specs.Meaning.{after_gate, after_read, after_let_go, after_clear};
 ghost use Rattle.registers.specs.Depth.{depths};
 ghost use Rattle.registers.specs.Answers.{prepare_answer, gate_answer, read_answer, let_go_answer};
@@ -47,7 +46,7 @@ pub trait Register {
 
     /// Whether the handle names a live qubit; from 32 on none does.
     fn is_live(&self, handle: u8) -> bool
-        ensures { result ≡ slice_index_or (meaning self.now).live handle false };
+        ensures { result ≡ is_live (meaning self.now).live handle };
 
     /// How many qubits are live.
     fn live_count(&self) -> usize

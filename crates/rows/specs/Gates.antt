@@ -3,8 +3,8 @@
 use Rattle.std.specs.Prelude.{◌≡◌, ℕ, ◌<◌, Bool, false, List, [], ◌∷◌, ◌++◌, Some, None, Option}
 use Rattle.std.specs.List.{slice_get}
 use Rattle.calculus.specs.declared.gates.Gate.{Gate}
-use Rattle.calculus.specs.Terms.{Const, bit_of, meas, new, gate, Term, var, const}
-use Rattle.calculus.specs.Terms.{star, lam, app, pair, if_then_else, let_pair}
+use Rattle.calculus.specs.Terms.{Const, bit_of, meas, new, gate, Term, var, const, star, lam, app}
+use Rattle.calculus.specs.Terms.{pair, if_then_else, let_pair}
 
 abbrev pub gate_named : Const → Option Gate
 gate_named (bit_of b) = None

@@ -2,8 +2,8 @@
 use Rattle.std.specs.Prelude.{ℕ, ◌≤◌}
 use Rattle.calculus.specs.declared.gates.Gate.{Gate}
 use Rattle.calculus.specs.Types.{Ty}
-use Rattle.calculus.specs.Terms.{gate, Term, const, lam, app, pair, if_then_else}
-use Rattle.calculus.specs.Terms.{let_pair, claim_of, size}
+use Rattle.calculus.specs.Terms.{gate, Term, const, lam, app, pair, if_then_else, let_pair}
+use Rattle.calculus.specs.Terms.{claim_of, size}
 use Rattle.calculus.specs.Contexts.{empty}
 use Rattle.calculus.specs.Typing.{Derives, Claimed}
 

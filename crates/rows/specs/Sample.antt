@@ -1,7 +1,7 @@
 -- One row in full. (fun x.0)(new 1) is loaded, prepares a qubit and drops it, and its value is
 -- collected.
-use Rattle.std.specs.Prelude.{◌≡◌, ℕ, false, true, Bool, List, [], ◌∷◌}
-use Rattle.std.specs.Prelude.{Some, None, Option, slice_set}
+use Rattle.std.specs.Prelude.{◌≡◌, ℕ, false, true, Bool, List, []}
+use Rattle.std.specs.Prelude.{◌∷◌, Some, None, Option, slice_set}
 use Rattle.calculus.specs.Types.{Ty, bit, qbit, arrow}
 use Rattle.calculus.specs.Terms.{bit_of, new, held, Term, var, const, lam, app, Running}
 use Rattle.registers.specs.Meaning.{Meaning, Changes, none_live}
