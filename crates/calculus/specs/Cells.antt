@@ -2,7 +2,8 @@
 use Rattle.std.specs.Prelude.{ℕ, true, false, List, [], ◌∷◌, ◌++◌, map}
 use Rattle.calculus.specs.Types.{Ty, bit, qbit, unit, bang, arrow, tensor}
 use Rattle.calculus.specs.Gates.{number_of}
-use Rattle.calculus.specs.Terms.{Const, bit_of, meas, new, gate, Var, bound, held, Term, var, const, star, lam, app, pair, if_then_else, let_pair, reclaimed, Running}
+use Rattle.calculus.specs.Terms.{Const, bit_of, meas, new, gate, Var, bound, held, Term, var, const}
+use Rattle.calculus.specs.Terms.{star, lam, app, pair, if_then_else, let_pair, reclaimed, Running}
 use Rattle.calculus.specs.declared.cells.TypeCell.{TypeCell}
 use Rattle.calculus.specs.declared.cells.TermCell.{TermCell}
 
@@ -47,7 +48,8 @@ cell_of op argument claim = record { op = op; argument = argument; claim = claim
 abbrev pub blank : TermCell
 blank = record { op = 0; argument = 0; claim = 0 }
 
--- a term's cells, where each node's claim is a place in a type table: s, l, a, p, i, d besides the leaves
+-- A term's cells, where each node's claim is a place in a type table. The letters are s, l, a, p, i
+-- and d, and those of the leaves.
 abbrev pub placed_cells : Term ℕ → List TermCell
 placed_cells (var c x) = cell_of (var_op x) (var_argument x) c ∷ []
 placed_cells (const c k) = cell_of (const_op k) (const_argument k) c ∷ []
@@ -55,7 +57,8 @@ placed_cells (star c) = cell_of 115 0 c ∷ []
 placed_cells (lam c m) = cell_of 108 0 c ∷ placed_cells m
 placed_cells (app c m n) = cell_of 97 0 c ∷ (placed_cells m ++ placed_cells n)
 placed_cells (pair c m n) = cell_of 112 0 c ∷ (placed_cells m ++ placed_cells n)
-placed_cells (if_then_else c p m n) = cell_of 105 0 c ∷ (placed_cells p ++ (placed_cells m ++ placed_cells n))
+placed_cells (if_then_else c p m n) =
+    cell_of 105 0 c ∷ (placed_cells p ++ (placed_cells m ++ placed_cells n))
 placed_cells (let_pair c m n) = cell_of 100 0 c ∷ (placed_cells m ++ placed_cells n)
 
 -- a running term's cells: every claim is 0

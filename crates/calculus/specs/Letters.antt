@@ -58,7 +58,9 @@ arguments_of at_i = 1
 arguments_of other = 0
 
 abbrev pub shape_of : Letter → Option OpShape
-shape_of l = cond (arguments_of l == 0) None (Some (record { parts = parts_of l; arguments = arguments_of l }))
+shape_of l =
+    cond (arguments_of l == 0) None
+    (Some (record { parts = parts_of l; arguments = arguments_of l }))
 
 -- the cell has a known letter and an argument that it allows
 abbrev pub allowed : TermCell → Bool

@@ -6,7 +6,8 @@ use Rattle.calculus.specs.Cells.{type_cells, cell_of, unclaimed}
 use Rattle.calculus.specs.Reading.{type_at}
 use Rattle.controller.specs.declared.shot.Shot.{Shot}
 
--- The cells of the running term, none where nothing is loaded, those of the loaded type, and the steps made since the load.
+-- The cells of the running term, none where nothing is loaded. Those of the loaded type, and the
+-- steps made since the load.
 pub record Held : Type 0 where
   pub cells : List TermCell
   pub kinds : List TypeCell
@@ -35,4 +36,5 @@ root_cells types terms = type_cells (type_at types (root_claim terms))
 
 -- a program as it is loaded: its term, which claims nothing as it runs, and its root's type
 abbrev pub program_held : List TypeCell → List TermCell → Held
-program_held types terms = record { cells = unclaimed terms; kinds = root_cells types terms; steps = 0 }
+program_held types terms =
+    record { cells = unclaimed terms; kinds = root_cells types terms; steps = 0 }

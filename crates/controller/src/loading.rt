@@ -2,7 +2,8 @@
 
 ghost use Rattle.std.specs.Prelude.{◌≡◌, ◌≤◌, map, length, take, MatchResult};
 ghost use Rattle.controller.specs.Loading.{is_made, first_unmade, load_answer};
-ghost use Rattle.controller.specs.Shots.{claiming_nothing, held, nothing_held, program_held, root_cells, root_claim};
+ghost use Rattle.controller.specs.Shots.{claiming_nothing, held, nothing_held, program_held};
+ghost use Rattle.controller.specs.Shots.{root_cells, root_claim};
 
 use crate::faults::{ControllerFault, Refusal};
 use crate::shot::{Shot, refill};
@@ -54,10 +55,14 @@ fn first_unmade<R: Register>(register: &R, terms: &[TermCell]) -> Option<usize>
 }
 
 impl Shot {
-    /// Copies an accepted program's term, which claims nothing as it runs, and its root's type; answers the cell count.
+    /// Copies an accepted program's term, which claims nothing as it runs, and its root's type.
+    /// Answers the cell count.
     pub fn load<R: Register>(&mut self, register: &R, program: &Accepted) -> Result<usize, Refusal>
-        ensures answer { result ≡ load_answer (R.Register.meaning register.now).makes (held self.old) program.now.terms.now }
-        ensures state { MatchResult result (λ _. held self.new ≡ program_held program.now.types.now program.now.terms.now) (λ _. self.new ≡ self.old) }
+        ensures answer { result ≡ load_answer (R.Register.meaning register.now).makes
+            (held self.old) program.now.terms.now }
+        ensures state { MatchResult result
+            (λ _. held self.new ≡ program_held program.now.types.now program.now.terms.now)
+            (λ _. self.new ≡ self.old) }
     {
         self.refuse_if(ControllerFault::AlreadyLoaded, !self.cells.is_empty())?;
         let terms = program.terms();

@@ -1,6 +1,7 @@
 -- What playing a shot comes to: its text is read, its row is played on a new tape, and the shot is
 -- what the replies report.
-use Rattle.std.specs.Prelude.{◌≡◌, ℕ, ◌%◌, List, [], ◌∷◌, map, replicate, take, None, Ok, Err, Option, Result}
+use Rattle.std.specs.Prelude.{◌≡◌, ℕ, ◌%◌, List, [], ◌∷◌, map, replicate, take, None, Ok, Err}
+use Rattle.std.specs.Prelude.{Option, Result}
 use Rattle.std.specs.List.{range_with_len}
 use Rattle.calculus.specs.Cells.{blank, kind_cell}
 use Rattle.calculus.specs.declared.cells.TermCell.{TermCell}

@@ -1,5 +1,6 @@
--- The content of a tape: what it was handed, how many pulses were spent, and where the search for the next handle begins.
-use Rattle.std.specs.Prelude.{ℕ, ◌+◌, ◌-◌, ◌%◌, min, Bool, true, List, [], ◌∷◌, length, ◌==◌, slice_index, slice_set}
+-- A tape: its content, how each pulse fills the journal, and what it means.
+use Rattle.std.specs.Prelude.{ℕ, ◌+◌, ◌-◌, ◌%◌, min, Bool, true, List, [], ◌∷◌, length, ◌==◌}
+use Rattle.std.specs.Prelude.{slice_index, slice_set}
 use Rattle.registers.specs.declared.tape.Tape.{Tape}
 use Rattle.calculus.specs.declared.gates.Gate.{Gate}
 use Rattle.registers.specs.declared.journal.Entry.{Entry}
@@ -7,15 +8,21 @@ use Rattle.registers.specs.declared.journal.Entry.TheVariants.{Prepare, Gate as 
 use Rattle.registers.specs.Meaning.{Meaning, Changes}
 use Rattle.registers.specs.Handles.{shown, unused}
 
+-- The outcomes that it was handed, the journal, the pulses spent, and where the search for the next
+-- handle begins.
 pub record Reel : Type 0 where
   pub outcomes : List ℕ
   pub entries : List Entry
   pub spent : ℕ
   pub next : ℕ
 
--- a pulse fills the journal's entry of its number, and no other
+-- Pulse k fills entry k of the journal and no other.
 abbrev pub filled : Reel → Entry → ℕ → Reel
-filled c entry next = record { outcomes = c.outcomes; entries = slice_set c.entries c.spent entry; spent = c.spent + 1; next = next }
+filled c entry next = record c {
+  entries = slice_set c.entries c.spent entry;
+  spent = c.spent + 1;
+  next = next;
+}
 
 -- three operands, with 0 after the last
 abbrev pub padded : List ℕ → List ℕ
@@ -39,7 +46,12 @@ abbrev pub outcome_next : Reel → Bool
 outcome_next c = slice_index c.outcomes c.spent % 2 == 1
 
 abbrev pub tape_reel : Tape → Reel
-tape_reel s = record { outcomes = s.outcomes.now; entries = s.journal.now; spent = s.spent; next = s.handles.next }
+tape_reel s = record {
+  outcomes = s.outcomes.now;
+  entries = s.journal.now;
+  spent = s.spent;
+  next = s.handles.next;
+}
 
 abbrev pub tape_makes : Gate → Bool
 tape_makes _ = true
@@ -47,7 +59,8 @@ tape_makes _ = true
 abbrev pub tape_meaning : Tape → Meaning Reel
 tape_meaning s = shown s.handles tape_makes (pulses_left (tape_reel s)) (tape_reel s)
 
--- a tape as made: as many pulses as the shorter of outcomes and journal
+-- a tape as it is made: as many pulses as the shorter of outcomes and journal
 abbrev pub new_tape : ℕ → List ℕ → List Entry → Meaning Reel
 new_tape capacity outcomes entries =
-    unused capacity tape_makes (min (length outcomes) (length entries)) (record { outcomes = outcomes; entries = entries; spent = 0; next = 0 })
+    unused capacity tape_makes (min (length outcomes) (length entries))
+    (record { outcomes = outcomes; entries = entries; spent = 0; next = 0 })

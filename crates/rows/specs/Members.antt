@@ -2,11 +2,13 @@
 use Rattle.std.specs.Prelude.{ℕ, ◌≤◌}
 use Rattle.calculus.specs.declared.gates.Gate.{Gate}
 use Rattle.calculus.specs.Types.{Ty}
-use Rattle.calculus.specs.Terms.{gate, Term, const, lam, app, pair, if_then_else, let_pair, claim_of, size}
+use Rattle.calculus.specs.Terms.{gate, Term, const, lam, app, pair, if_then_else, let_pair}
+use Rattle.calculus.specs.Terms.{claim_of, size}
 use Rattle.calculus.specs.Contexts.{empty}
 use Rattle.calculus.specs.Typing.{Derives, Claimed}
 
--- An accepted program: a term that has a derivation with its claims, and is no longer than a program may be.
+-- An accepted program: a term that has a derivation with its claims. It is no longer than a program
+-- may be.
 pub record Program : Type 0 where
   pub term : Term Ty
   pub accepted : Derives Claimed empty term (claim_of term)
