@@ -3,6 +3,7 @@
 use Rattle.std.specs.Prelude.{◌≡◌, ℕ, Bool, true, false, cond, ◌&&◌, T, List, [], ◌∷◌, drop, Some}
 use Rattle.std.specs.Prelude.{None, Option, ◌==◌}
 use Rattle.std.specs.List.{flat_map}
+use Rattle.calculus.specs.Alphabet.{kind_bit, kind_qubit, kind_unit, kind_bang, kind_arrow}
 use Rattle.trees.specs.Whole.{whole}
 use Rattle.calculus.specs.declared.cells.TypeCell.{TypeCell}
 use Rattle.calculus.specs.declared.cells.TermCell.{TermCell}
@@ -29,11 +30,11 @@ rest (x ∷ xs) = xs
 -- a type cell before cells that mean the types ts: b, q, u, !, >, *
 abbrev pub read_type : ℕ → List Ty → List Ty
 read_type k ts =
-    cond (k == 98) (bit ∷ ts)
-    (cond (k == 113) (qbit ∷ ts)
-    (cond (k == 117) (unit ∷ ts)
-    (cond (k == 33) (bang (top unit ts) ∷ rest ts)
-    (cond (k == 62) (arrow (top unit ts) (top unit (rest ts)) ∷ rest (rest ts))
+    cond (k == kind_bit) (bit ∷ ts)
+    (cond (k == kind_qubit) (qbit ∷ ts)
+    (cond (k == kind_unit) (unit ∷ ts)
+    (cond (k == kind_bang) (bang (top unit ts) ∷ rest ts)
+    (cond (k == kind_arrow) (arrow (top unit ts) (top unit (rest ts)) ∷ rest (rest ts))
     (tensor (top unit ts) (top unit (rest ts)) ∷ rest (rest ts))))))
 
 -- the types that the cells mean, one after the other

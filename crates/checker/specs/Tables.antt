@@ -1,5 +1,6 @@
 -- The tests of whole tables, types before terms, each with the first cell at fault.
 use Rattle.std.specs.Prelude.{ℕ, Bool, not, ◌&&◌, List, length, Ok, ◌==◌, nat_le, nat_lt}
+use Rattle.calculus.specs.Alphabet.{op_qubit}
 use Rattle.calculus.specs.declared.limits.TheConstants.{MOST_TYPE_CELLS, MOST_TERM_CELLS}
 use Rattle.trees.specs.Failing.{first_failing, none_at}
 use Rattle.trees.specs.Reach.{not_one_tree}
@@ -14,7 +15,7 @@ use Rattle.verdict.specs.declared.faults.CheckReason.TheVariants.{NotWhole, Clai
 
 -- a cell that may stand in a program: q, the name of a qubit, may not
 abbrev pub storable : TermCell → Bool
-storable c = allowed c && not (c.op == 113)
+storable c = allowed c && not (c.op == op_qubit)
 
 abbrev pub claim_in : ℕ → TermCell → Bool
 claim_in n c = nat_lt c.claim n

@@ -2,6 +2,7 @@
 use Rattle.std.specs.Prelude.{ℕ, Bool, if◌then◌else◌, List, [], ◌∷◌}
 use Rattle.std.specs.Prelude.{Ok, Err, Result, ◌==◌, nat_lt, slice_get}
 use Rattle.std.specs.Option.{ok_or}
+use Rattle.calculus.specs.Alphabet.{op_one}
 use Rattle.calculus.specs.declared.gates.Gate.{Gate}
 use Rattle.calculus.specs.declared.gates.Gate.TheVariants.{H, X, Z, S, T, Cnot, Swap, Toffoli}
 use Rattle.calculus.specs.declared.cells.TermCell.{TermCell}
@@ -56,7 +57,7 @@ qubit_places Toffoli = 3 ∷ 5 ∷ 6 ∷ []
 -- What the cells ask for: the bit that is prepared, the qubit that is read, or the gate that is
 -- applied.
 abbrev pub bit_asked : List TermCell → Result Bool ControllerFault
-bit_asked cs = on_ok (cell_at cs 2) (λ c. Ok (c.op == 49))
+bit_asked cs = on_ok (cell_at cs 2) (λ c. Ok (c.op == op_one))
 
 abbrev pub qubit_asked : List TermCell → Result ℕ ControllerFault
 qubit_asked cs = qubit_at cs 2

@@ -1,5 +1,6 @@
 -- The numbers of the controller's faults, and when a step may begin.
 use Rattle.std.specs.Prelude.{ℕ, cond, Some, None, Ok, Err, Option, Result, ◌==◌, nat_lt}
+use Rattle.calculus.specs.declared.limits.TheConstants.{MOST_RUNNING_CELLS}
 use Rattle.registers.specs.Answers.{number_of}
 use Rattle.controller.specs.declared.faults.ControllerFault.{ControllerFault}
 use Rattle.controller.specs.declared.faults.ControllerFault.TheVariants.{NothingLoaded}
@@ -25,7 +26,7 @@ fault_number (Register f) = number_of f.reason
 abbrev pub ready_answer : ℕ → ℕ → Result (Unit {0}) ControllerFault
 ready_answer running work =
     cond (running == 0) (Err NothingLoaded)
-    (cond (nat_lt work 1024) (Err ShortTable) (Ok tt))
+    (cond (nat_lt work MOST_RUNNING_CELLS) (Err ShortTable) (Ok tt))
 
 -- a refused call, with its place
 abbrev pub refused : {A : Type 0} → ControllerFault → ℕ → Result A Refusal

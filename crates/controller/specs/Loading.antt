@@ -1,6 +1,7 @@
 -- When a load is refused, and what it answers.
 use Rattle.std.specs.Prelude.{◌≡◌, ℕ, ◌⊎◌, Bool, true, false, cond, List, length, Some, None, Ok}
 use Rattle.std.specs.Prelude.{Err, Option, Result, ◌==◌}
+use Rattle.calculus.specs.Alphabet.{op_gate}
 use Rattle.trees.specs.Failing.{first_failing}
 use Rattle.calculus.specs.Gates.{gate_of}
 use Rattle.calculus.specs.Terms.{Term}
@@ -18,7 +19,7 @@ gate_made makes (Some g) = makes g
 
 -- the cell names no gate, or one that is made
 abbrev pub is_made : (Gate → Bool) → TermCell → Bool
-is_made makes c = cond (c.op == 103) (gate_made makes (gate_of c.argument)) true
+is_made makes c = cond (c.op == op_gate) (gate_made makes (gate_of c.argument)) true
 
 -- the first cell that names a gate which is not made
 abbrev pub first_unmade : (Gate → Bool) → List TermCell → Option ℕ

@@ -1,6 +1,7 @@
 -- One step: what it answers, and what it makes of the shot, the register and the work table.
 use Rattle.std.specs.Prelude.{◌≡◌, ℕ, ◌+◌, min, List, length, drop, Some, None, Ok, Err, Option}
 use Rattle.std.specs.Prelude.{Result, cond, nat_le, nat_lt}
+use Rattle.calculus.specs.declared.limits.TheConstants.{MOST_RUNNING_CELLS}
 use Rattle.calculus.specs.declared.cells.TermCell.{TermCell}
 use Rattle.finder.specs.declared.rules.Rule.{Rule}
 use Rattle.finder.specs.declared.faults.FindFault.{FindFault}
@@ -27,9 +28,13 @@ pub record Made (C : Type 0) : Type 0 where
   pub cells : List TermCell
   pub register : Meaning C
 
+-- the last number of a count of steps
+abbrev pub most_steps : ℕ
+most_steps = 18446744073709551615
+
 -- the count of the steps made stays at its last number
 abbrev pub one_more : ℕ → ℕ
-one_more steps = min (steps + 1) 18446744073709551615
+one_more steps = min (steps + 1) most_steps
 
 module _ {C : Type 0} (changes : Changes C) (r : Told C) (cs : List TermCell) where
   -- The register has answered. The next cells are made, and the qubits that they name no more are
@@ -51,7 +56,7 @@ module _ {C : Type 0} (changes : Changes C) (r : Told C) (cs : List TermCell) wh
   abbrev pub advanced : Rule → ℕ → Result (Made C) ControllerFault
   advanced rule at =
       cond (nat_le (length cs) at) (Err NoRule)
-      (cond (nat_lt 1024 (length (next_cells cs rule at Nothing))) (Err TooLong)
+      (cond (nat_lt MOST_RUNNING_CELLS (length (next_cells cs rule at Nothing))) (Err TooLong)
       (made_or_fault rule at (asked r (drop at cs) rule)))
 
   -- the step of what the finder answers

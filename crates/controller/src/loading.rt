@@ -38,11 +38,11 @@ fn root_claim(terms: &[TermCell]) -> usize
 // Copies the cells of the type that a program's root claims to the front of a table, and answers
 // their count.
 fn copy_root_type(program: &Accepted, table: &mut [TypeCell]) -> usize
-    requires { length table.old ≡ 256 }
+    requires { length table.old ≡ MOST_TYPE_CELLS }
     ensures cells { take result table.new
         ≡ root_cells program.now.types.now program.now.terms.now }
     ensures within { result ≤ length table.new }
-    ensures length { length table.new ≡ 256 }
+    ensures length { length table.new ≡ MOST_TYPE_CELLS }
 {
     copy(program.types(), root_claim(program.terms()), table).unwrap()
 }

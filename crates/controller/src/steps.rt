@@ -36,7 +36,8 @@ fn write_next(
     answer: Answer,
     work: &mut [TermCell],
 ) -> usize
-    requires { (1024 ≤ length work.old) × (length (next_cells cells.now rule at answer) ≤ 1024) }
+    requires { (MOST_RUNNING_CELLS ≤ length work.old)
+        × (length (next_cells cells.now rule at answer) ≤ MOST_RUNNING_CELLS) }
     ensures count { result ≡ length (next_cells cells.now rule at answer) }
     ensures work { work.new ≡ begun_with (next_cells cells.now rule at answer) work.old }
     ensures fits { result ≤ length work.new }
@@ -56,7 +57,7 @@ impl Shot {
 
     // The running term becomes that of some cells, by one step more.
     fn replace(&mut self, cells: &[TermCell])
-        requires { length cells.now ≤ 1024 }
+        requires { length cells.now ≤ MOST_RUNNING_CELLS }
         ensures { held self.new ≡ record {
           cells = cells.now;
           kinds = (held self.old).kinds;
@@ -77,8 +78,8 @@ impl Shot {
         answer: Answer,
         work: &mut [TermCell],
     ) -> usize
-        requires { (1024 ≤ length work.old)
-            × (length (next_cells (held self.old).cells rule at answer) ≤ 1024) }
+        requires { (MOST_RUNNING_CELLS ≤ length work.old)
+            × (length (next_cells (held self.old).cells rule at answer) ≤ MOST_RUNNING_CELLS) }
         ensures count { result ≡ length (next_cells (held self.old).cells rule at answer) }
         ensures shot { held self.new ≡ record {
           cells = next_cells (held self.old).cells rule at answer;
@@ -108,7 +109,7 @@ impl Shot {
         at: usize,
         work: &mut [TermCell],
     ) -> Result<usize, ControllerFault>
-        requires { 1024 ≤ length work.old }
+        requires { MOST_RUNNING_CELLS ≤ length work.old }
         ensures answer { result ≡ count_made
             (advanced R.Register.changes (told R.Register register.old)
             (held self.old).cells rule at) }
@@ -133,7 +134,7 @@ impl Shot {
         found: Result<Option<(Rule, usize)>, FindFault>,
         work: &mut [TermCell],
     ) -> Result<usize, ControllerFault>
-        requires { 1024 ≤ length work.old }
+        requires { MOST_RUNNING_CELLS ≤ length work.old }
         ensures answer { result ≡ count_made
             (taken R.Register.changes (told R.Register register.old) (held self.old).cells found) }
         ensures state { StepLeaves R.Register

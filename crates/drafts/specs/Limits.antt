@@ -2,6 +2,7 @@
 use Rattle.std.specs.Prelude.{ℕ, zero, suc, ◌-◌, ◌/◌, ◌%◌, nat_eq, true, false}
 use Rattle.std.specs.Prelude.{List, [], ◌∷◌, ◌++◌, if◌then◌else◌}
 use Rattle.std.specs.List.{flat_map}
+use Rattle.calculus.specs.Alphabet.{op_variable, op_function, op_application}
 use Rattle.calculus.specs.declared.cells.TypeCell.{TypeCell}
 use Rattle.calculus.specs.declared.cells.TermCell.{TermCell}
 use Rattle.calculus.specs.Types.{Ty, bit, bang, arrow, tensor}
@@ -56,8 +57,8 @@ padded_function n = lam 7 (padded_bit (n - 1))
 -- what is written before the term within: so many identities applied, and so many uses
 abbrev pub wraps : ℕ → List TermCell
 wraps zero = []
-wraps (suc n) = wraps n ++ (cell_of 97 0 0 ∷ cell_of 108 0 1 ∷ cell_of 118 0 0 ∷ [])
+wraps (suc n) = wraps n ++ (cell_of op_application 0 0 ∷ cell_of op_function 0 1 ∷ cell_of op_variable 0 0 ∷ [])
 
 abbrev pub calls : ℕ → ℕ → List TermCell
 calls i zero = []
-calls i (suc n) = calls i n ++ (cell_of 97 0 0 ∷ cell_of 118 i 1 ∷ [])
+calls i (suc n) = calls i n ++ (cell_of op_application 0 0 ∷ cell_of op_variable i 1 ∷ [])

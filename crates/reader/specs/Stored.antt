@@ -86,7 +86,8 @@ Done text ts ms (Err f) us ns =
 
 -- the counts of an accepted read are within the limits and the tables
 abbrev pub Bounded : Result (ℕ × ℕ) ReadFault → List TypeCell → List TermCell → Type 0
-Bounded (Ok n) ts ms = (n.0 ≤ MOST_TYPE_CELLS) × (n.0 ≤ length ts) × (n.1 ≤ MOST_TERM_CELLS) × (n.1 ≤ length ms)
+Bounded (Ok n) ts ms = (n.0 ≤ MOST_TYPE_CELLS) × (n.0 ≤ length ts)
+    × (n.1 ≤ MOST_TERM_CELLS) × (n.1 ≤ length ms)
 Bounded (Err f) ts ms = Unit {0}
 
 -- What holds of every read.

@@ -1,6 +1,7 @@
 -- The sheet of the controller's refusals: one constructor to a row. The register's rows are from
 -- its own sheet.
 use Rattle.std.specs.Prelude.{◌≡◌, ℕ, ◌<◌, false, ◌⊎◌, length, Some, None, Option}
+use Rattle.calculus.specs.declared.limits.TheConstants.{MOST_RUNNING_CELLS}
 use Rattle.calculus.specs.declared.gates.Gate.{Gate}
 use Rattle.calculus.specs.Types.{Ty}
 use Rattle.calculus.specs.Terms.{Running, size}
@@ -15,7 +16,7 @@ use Rattle.rows.specs.Asking.{Calls, Overflows}
 
 -- the cells that a running term may have, and that a work table has to have
 abbrev pub most_cells : ℕ
-most_cells = 1024
+most_cells = MOST_RUNNING_CELLS
 
 module _ {C : Type 0} (p : Place C) where
   abbrev pub Runs : Running → Ty → Type 0

@@ -1,6 +1,7 @@
 -- Cells written into a table.
 use Rattle.std.specs.Prelude.{ℕ, ◌+◌, ◌-◌, nat_le, true, false, cond, ◌&&◌}
 use Rattle.std.specs.Prelude.{List, ◌++◌, length, take, drop, Some, None, Option}
+use Rattle.calculus.specs.Alphabet.{op_qubit, op_zero, op_one, op_unit}
 use Rattle.calculus.specs.declared.limits.TheConstants.{MOST_RUNNING_CELLS}
 use Rattle.calculus.specs.declared.cells.TermCell.{TermCell}
 use Rattle.stepper.specs.declared.writing.Answer.{Answer}
@@ -12,10 +13,10 @@ running_cell op argument = record { op = op; argument = argument; claim = 0 }
 
 -- the cell of the register's answer: the unit value for none, a qubit's name, or a bit
 abbrev pub answer_cell : Answer → TermCell
-answer_cell Nothing = running_cell 115 0
-answer_cell (Handle h) = running_cell 113 h
-answer_cell (Outcome true) = running_cell 49 0
-answer_cell (Outcome false) = running_cell 48 0
+answer_cell Nothing = running_cell op_unit 0
+answer_cell (Handle h) = running_cell op_qubit h
+answer_cell (Outcome true) = running_cell op_one 0
+answer_cell (Outcome false) = running_cell op_zero 0
 
 -- the number of cells after some are put behind the first `len`, if a running term may have so many
 abbrev pub put_count : ℕ → List TermCell → Option ℕ

@@ -2,6 +2,7 @@
 
 ghost use Rattle.std.specs.Prelude.{◌≡◌, ◌+◌, ◌*◌, ◌^◌, ◌<◌, ◌≤◌};
 ghost use Rattle.std.specs.Prelude.{[], ◌∷◌, length, take, drop, IfSome};
+ghost use Rattle.calculus.specs.declared.limits.TheConstants.{MOST_RUNNING_CELLS};
 ghost use Rattle.stepper.specs.Laws.{MakesStep};
 ghost use Rattle.stepper.specs.Next.{trees, left, next_cells};
 ghost use Rattle.stepper.specs.Parts.{taken, after};
