@@ -1,5 +1,5 @@
 -- What a register answers, by its meaning. The first test that holds refuses the call.
-use Rattle.std.specs.Prelude.{ℕ, Bool, true, false, cond, not, ◌&&◌, List, [], ◌∷◌, length, Ok, Err}
+use Rattle.std.specs.Prelude.{ℕ, Bool, true, cond, not, ◌&&◌, List, [], ◌∷◌, length, Ok, Err}
 use Rattle.std.specs.Prelude.{Result, ◌==◌, nat_le}
 use Rattle.std.specs.List.{list_all, list_any}
 use Rattle.calculus.specs.Gates.{operands_of}
