@@ -6,12 +6,11 @@ use Rattle.calculus.specs.Cells.{type_cells, cell_of, unclaimed}
 use Rattle.calculus.specs.Reading.{type_at}
 use Rattle.controller.specs.declared.shot.Shot.{Shot}
 
--- The cells of the running term, none where nothing is loaded. Those of the loaded type, and the
--- steps made since the load.
+-- What a shot holds. Where nothing is loaded there are no cells.
 pub record Held : Type 0 where
-  pub cells : List TermCell
-  pub kinds : List TypeCell
-  pub steps : ℕ
+  pub cells : List TermCell  -- of the running term
+  pub kinds : List TypeCell  -- of its loaded type
+  pub steps : ℕ  -- how many were made since the load
 
 abbrev pub held : Shot → Held
 held s = record { cells = s.cells.items; kinds = s.kinds.items; steps = s.steps }

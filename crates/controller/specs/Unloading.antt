@@ -28,11 +28,14 @@ is_value (Ok None) = true
 is_value (Ok (Some x)) = false
 is_value (Err f) = false
 
+-- one of two tables of so many places is too short for the value or its type
+abbrev pub are_short : Held → ℕ → ℕ → Bool
+are_short h room kinds_room = nat_lt room (length h.cells) || nat_lt kinds_room (length h.kinds)
+
 -- both counts, for tables of so many places
 abbrev pub collect_answer : Held → ℕ → ℕ → Result (ℕ × ℕ) Refusal
 collect_answer h room kinds_room =
     cond (not (is_loaded h)) (refused NothingLoaded h.steps)
     (cond (not (is_value (answer h.cells))) (refused NoValue h.steps)
-    (cond (nat_lt room (length h.cells) || nat_lt kinds_room (length h.kinds))
-    (refused ShortTables h.steps)
+    (cond (are_short h room kinds_room) (refused ShortTables h.steps)
     (Ok (length h.cells, length h.kinds))))

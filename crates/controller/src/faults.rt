@@ -1,8 +1,7 @@
 //! Why a call is refused, and why a run stops.
 
 ghost use Rattle.std.specs.Prelude.{◌≡◌, if◌then◌else◌};
-ghost use Rattle.controller.specs.declared.faults.ControllerFault.TheVariants.{NoRule};
-ghost use Rattle.controller.specs.declared.faults.ControllerFault.TheVariants.{Register as ofRegister};
+ghost use Rattle.controller.specs.declared.faults.ControllerFault.TheVariants.{NoRule, Register};
 ghost use Rattle.controller.specs.Faults.{fault_number};
 
 use finder::FindFault;
@@ -65,7 +64,7 @@ impl ControllerFault {
 }
 
 impl From<RegisterFault> for ControllerFault {
-    ghost from_gives = { λ f c. c ≡ ofRegister f };
+    ghost from_gives = { λ f c. c ≡ Register f };
 
     fn from(fault: RegisterFault) -> ControllerFault {
         ControllerFault::Register(fault)

@@ -9,8 +9,8 @@ use crate::faults::{ControllerFault, Refusal};
 use arrayvec::ArrayVec;
 use calculus::{MOST_RUNNING_CELLS, MOST_TYPE_CELLS, TermCell, TypeCell};
 
-/// A running term, of no cells where nothing is loaded. The cells of its type, and the steps made
-/// since the load.
+/// The cells of a running term and of its type, and the steps made since the load. Where nothing is
+/// loaded there are no cells.
 #[derive(Default, Drop)]
 pub struct Shot {
     pub(crate) cells: ArrayVec<TermCell, MOST_RUNNING_CELLS>,

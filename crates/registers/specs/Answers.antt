@@ -1,5 +1,5 @@
--- What a register answers, by its meaning. The first test that holds refuses the call.
-use Rattle.std.specs.Prelude.{ℕ, Bool, true, false, cond, not, ◌&&◌, List, [], ◌∷◌, length, Ok, Err}
+-- What a register answers, by its meaning. If several reasons hold, the lowest number answers.
+use Rattle.std.specs.Prelude.{ℕ, Bool, true, cond, not, ◌&&◌, List, [], ◌∷◌, length, Ok, Err}
 use Rattle.std.specs.Prelude.{Result, ◌==◌, nat_le}
 use Rattle.std.specs.List.{list_all, list_any}
 use Rattle.calculus.specs.Gates.{operands_of}
@@ -11,6 +11,7 @@ use Rattle.registers.specs.declared.fault.RegisterReason.TheVariants.{NotLive, G
 use Rattle.registers.specs.declared.fault.RegisterFault.{RegisterFault}
 use Rattle.registers.specs.Meaning.{Meaning, counted, is_live}
 
+-- the number by which a listing names a reason
 abbrev pub number_of : RegisterReason → ℕ
 number_of NoPulses = 41
 number_of Full = 42
@@ -41,11 +42,13 @@ distinct [] = true
 distinct (h ∷ hs) = not (among h hs) && distinct hs
 
 module _ {C : Type 0} (m : Meaning C) (depth : RegisterReason → ℕ) where
+  -- a prepare answers a handle
   abbrev pub prepare_answer : ℕ → Result ℕ RegisterFault
   prepare_answer fresh =
       cond (m.pulses == 0) (refused depth NoPulses)
       (cond (is_full m) (refused depth Full) (Ok fresh))
 
+  -- a gate answers nothing but that it was applied
   abbrev pub gate_answer : Gate → List ℕ → Result (Unit {0}) RegisterFault
   gate_answer gate on =
       cond (m.pulses == 0) (refused depth NoPulses)
@@ -60,10 +63,12 @@ module _ {C : Type 0} (m : Meaning C) (depth : RegisterReason → ℕ) where
       cond (m.pulses == 0) (refused depth NoPulses)
       (cond (is_live m.live h) (Ok tt) (refused depth NotLive))
 
+  -- a read answers an outcome
   abbrev pub read_answer : ℕ → Bool → Result Bool RegisterFault
   read_answer h outcome =
       cond (m.pulses == 0) (refused depth NoPulses)
       (cond (is_live m.live h) (Ok outcome) (refused depth NotLive))
 
+  -- a handle that is live may be let go, with no pulse left as well
   abbrev pub let_go_answer : ℕ → Result (Unit {0}) RegisterFault
   let_go_answer h = cond (is_live m.live h) (Ok tt) (refused depth NotLive)

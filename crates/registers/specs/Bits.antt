@@ -1,4 +1,4 @@
--- A level: its content, which is a bit for each handle, what its gates do, and what it means.
+-- A level: its content, which has a bit for each handle, what its gates do, and what it means.
 use Rattle.std.specs.Prelude.{◌≡◌, ℕ, ◌+◌, Bool, true, false, cond, not, ◌&&◌, List, replicate}
 use Rattle.std.specs.Prelude.{slice_index, slice_index_or, slice_set}
 use Rattle.calculus.specs.declared.gates.Gate.{Gate}
@@ -10,11 +10,12 @@ use Rattle.registers.specs.Handles.{places, shown, unused}
 abbrev pub zeros : List Bool
 zeros = replicate 32 false
 
--- The bits by their handles, and where the search for the next handle begins.
+-- The content of a level.
 pub record Bits : Type 0 where
-  pub bits : List Bool
-  pub next : ℕ
+  pub bits : List Bool  -- the bits by their handles
+  pub next : ℕ  -- where the search for the next handle begins
 
+-- the gates that a level makes: those that permute bits
 abbrev pub level_makes : Gate → Bool
 level_makes H = false
 level_makes X = true
@@ -25,6 +26,7 @@ level_makes Cnot = true
 level_makes Swap = true
 level_makes Toffoli = true
 
+-- the bit of a handle
 abbrev pub bit_of : List Bool → ℕ → Bool
 bit_of bits h = slice_index_or bits h false
 
@@ -49,6 +51,7 @@ bits_gated bits Toffoli on =
     flipped bits (bit_of bits (slice_index on 0) && bit_of bits (slice_index on 1))
     (slice_index on 2)
 
+-- what each accepted call makes of the content
 abbrev pub level_changes : Changes Bits
 level_changes = record {
   prepared = λ c h bit. record { bits = slice_set c.bits h bit; next = h + 1 };

@@ -7,11 +7,11 @@ use Rattle.registers.specs.declared.fault.RegisterReason.{RegisterReason}
 use Rattle.registers.specs.declared.handles.Handles.{Handles}
 use Rattle.registers.specs.Meaning.{Meaning, none_live}
 
--- the first place that is not true, or the length where there is none
+-- the first handle that is not live, or one past the last
 abbrev pub first_free : List Bool → ℕ
 first_free bs = position_or_len not bs
 
--- the first place from a start on that is not true, or one past the last
+-- the first from a start on that is not live, or one past the last
 abbrev pub free_from : List Bool → ℕ → ℕ
 free_from bs start = start + first_free (drop start bs)
 

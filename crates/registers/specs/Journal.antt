@@ -8,15 +8,14 @@ use Rattle.registers.specs.declared.journal.Entry.TheVariants.{Prepare, Gate as 
 use Rattle.registers.specs.Meaning.{Meaning, Changes}
 use Rattle.registers.specs.Handles.{shown, unused}
 
--- The outcomes that it was handed, the journal, the pulses spent, and where the search for the next
--- handle begins.
+-- The content of a tape.
 pub record Reel : Type 0 where
-  pub outcomes : List ℕ
-  pub entries : List Entry
-  pub spent : ℕ
-  pub next : ℕ
+  pub outcomes : List ℕ  -- what it was handed to answer, one for each pulse
+  pub entries : List Entry  -- the journal
+  pub spent : ℕ  -- how many pulses are spent
+  pub next : ℕ  -- where the search for the next handle begins
 
--- Pulse k fills entry k of the journal and no other.
+-- A pulse is spent: it fills the journal's entry of its number, and no other.
 abbrev pub filled : Reel → Entry → ℕ → Reel
 filled c entry next = record c {
   entries = slice_set c.entries c.spent entry;
@@ -28,6 +27,7 @@ filled c entry next = record c {
 abbrev pub padded : List ℕ → List ℕ
 padded on = slice_index on 0 ∷ slice_index on 1 ∷ slice_index on 2 ∷ []
 
+-- what each accepted call makes of the content
 abbrev pub tape_changes : Changes Reel
 tape_changes = record {
   prepared = λ c h bit. filled c (Prepare h bit) (h + 1);
@@ -53,6 +53,7 @@ tape_reel s = record {
   next = s.handles.next;
 }
 
+-- a tape makes every gate
 abbrev pub tape_makes : Gate → Bool
 tape_makes _ = true
 

@@ -10,15 +10,15 @@ use Rattle.registers.specs.Depth.{deeper}
 use Rattle.registers.specs.Meaning.{Meaning, Changes, Owed, after_prepare, after_gate, after_read}
 use Rattle.registers.specs.Meaning.{after_let_go, after_clear}
 
--- an answer as the layer above passes it on
+-- An answer from below, as a cap passes it on. A refusal is one layer deeper.
 abbrev pub passed_on : {A : Type 0} → Result A RegisterFault → Result A RegisterFault
 passed_on (Ok x) = Ok x
 passed_on (Err f) = Err (record f { depth = deeper f.depth })
 
--- The content of a cap: its limit, and all that the register below means.
+-- The content of a cap.
 pub record Under (C : Type 0) : Type 0 where
-  pub limit : ℕ
-  pub below : Meaning C
+  pub limit : ℕ  -- how many handles may be live
+  pub below : Meaning C  -- all that the register below means
 
 abbrev pub under : {C : Type 0} → ℕ → Meaning C → Under C
 under limit m = record { limit = limit; below = m }
@@ -43,8 +43,8 @@ cap_changes changes = record {
   cleared = λ c. under c.limit (after_clear changes c.below);
 }
 
--- A cap itself refuses for want of room, where its limit is reached. All else it passes up from the
--- register below.
+-- What a cap passes up, by its limit and the live count. It refuses for want of room itself, where
+-- its limit is reached. All else comes from below, at a depth for each reason.
 abbrev pub cap_passes_up : ℕ → ℕ → (RegisterReason → ℕ) → RegisterReason → Option ℕ
 cap_passes_up limit count below NoPulses = Some (below NoPulses)
 cap_passes_up limit count below Full = cond (nat_le limit count) None (Some (below Full))

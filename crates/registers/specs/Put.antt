@@ -8,7 +8,7 @@ use Rattle.registers.specs.declared.register.Register.{Ghosts}
 use Rattle.registers.specs.Deeds.{Deed, prepares, applies, reads, lets_go, clears, Does, DoesAll}
 use Rattle.registers.specs.Bits.{level_meaning, new_level}
 
--- the bits by their handles, with one put in place of another
+-- the bits by their handles, with this bit for one of them
 abbrev pub with_bit : (ℕ → Bool) → ℕ → Bool → ℕ → Bool
 with_bit held h bit k = cond (h == k) bit (held k)
 

@@ -77,6 +77,7 @@ module _ {C : Type 0} (m : Meaning C) where
       Holds reason call
       × ((other : RegisterReason) → number_of other < number_of reason → Holds other call → ⊥)
 
+-- the reason of a refusal
 abbrev pub reason_of : {A : Type 0} → Result A RegisterFault → Option RegisterReason
 reason_of (Ok x) = None
 reason_of (Err f) = Some f.reason

@@ -16,6 +16,7 @@ pub record Told (C : Type 0) : Type 0 where
   pub fresh : ℕ  -- the handle of the next prepare
   pub outcome : ℕ → Bool  -- what a read of the handle gives
 
+-- what a register of a kind tells
 abbrev pub told : {R : Type 0} (kind : Ghosts R) → R → Told kind.Content
 told kind r = record {
   meaning = kind.meaning r;
