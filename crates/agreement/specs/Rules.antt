@@ -2,7 +2,8 @@
 use Rattle.second.specs.declared.seeks.SecondRule.{SecondRule}
 use Rattle.second.specs.declared.seeks.SecondRule.TheVariants as second_rule
 use Rattle.finder.specs.declared.rules.Rule.{Rule}
-use Rattle.finder.specs.declared.rules.Rule.TheVariants.{Function, Pair, Then, Else, Prepare, Read, Gates}
+use Rattle.finder.specs.declared.rules.Rule.TheVariants.{Function, Pair, Then, Else}
+use Rattle.finder.specs.declared.rules.Rule.TheVariants.{Prepare, Read, Gates}
 
 abbrev pub renamed_rule : Rule → SecondRule
 renamed_rule Function = second_rule.Function

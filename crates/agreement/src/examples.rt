@@ -26,7 +26,8 @@ fn first_line(text: &[u8]) -> Option<(&[u8], &[u8])>
     Some(text.split_at(end))
 }
 
-// The program of so many bytes behind the byte that ends a line, and what follows it, where so much is there.
+// The program of so many bytes behind the byte that ends a line, and what follows it, where so much
+// is there.
 fn program(after: &[u8], size: usize) -> Option<(&[u8], &[u8])>
     ensures { IfSome result (λ parts. length parts.1.now < length after.now) }
 {

@@ -1,6 +1,7 @@
-//! Runs two interpreters of the quantum lambda calculus over examples and generated programs, and compares all that can
-//! be seen of them: whole shots, faults of checked tables, and where the next step of any cells is. With a seed and a count as
-//! arguments it compares so many programs drawn from that seed and nothing else.
+//! Runs two interpreters of the quantum lambda calculus over examples and generated programs, and
+//! compares all that can be seen of them: whole shots, faults of checked tables, and where the next
+//! step of any cells is. With a seed and a count as arguments it compares so many programs drawn
+//! from that seed and nothing else.
 #![tactic(auto)]
 
 mod compare;

@@ -1,4 +1,4 @@
--- The lemmas on subtyping and typing that the safety theorems rest on, in the words of the calculus alone.
+-- The lemmas on subtyping and typing that the safety theorems rest on.
 use Rattle.std.specs.Prelude.{◌≡◌, ℕ, ◌≤◌, Bool, ◌⊎◌, [], ◌∷◌, Some, None, ◌≢◌}
 use Rattle.calculus.specs.Types.{Ty, bit, qbit, bang, arrow, tensor, bangs, Sub}
 use Rattle.calculus.specs.Terms.{Const, bit_of, Var, bound, held, const, lam, pair, Running, Free}
@@ -22,9 +22,12 @@ pub record OnlyQubits (γ : Context) : Type 0 where
 pub record TypingLaws : Type 0 where
   -- Only a term's free variables matter; they may have smaller types, and the term a greater one.
   pub narrowed : (γ δ : Context) (m : Running) (a b : Ty) → Derives Unclaimed γ m a → Sub a b
-      → ((x : Var) (t : Ty) → Free x m → γ x ≡ Some t → (s : Ty) × (δ x ≡ Some s) × Sub s t) → Derives Unclaimed δ m b
+      → ((x : Var) (t : Ty) → Free x m → γ x ≡ Some t → (s : Ty) × (δ x ≡ Some s) × Sub s t)
+      → Derives Unclaimed δ m b
   -- A value of a duplicable type has only duplicable free variables.
-  pub duplicable_value : (γ : Context) (v : Running) (a : Ty) (x : Var) → Value v → Derives Unclaimed γ v (bang a) → Free x v → (b : Ty) × (γ x ≡ Some (bang b))
+  pub duplicable_value : (γ : Context) (v : Running) (a : Ty) (x : Var)
+      → Value v → Derives Unclaimed γ v (bang a) → Free x v
+      → (b : Ty) × (γ x ≡ Some (bang b))
   -- A value may stand for a variable of its type: for the nearest, where k is 0, or for one past
   -- k nearer binders, which the value stands outside of.
   pub substitution : (k : ℕ) (γ γ₁ γ₂ : Context) (m v : Running) (a b : Ty)
@@ -37,7 +40,13 @@ pub record TypingLaws : Type 0 where
       → Derives Unclaimed (inserted k a γ₁) m b → Derives Unclaimed γ₂ v (bangs n a)
       → Derives Unclaimed γ (substituted k (v ∷ []) m) b
   -- A value's type tells its form.
-  pub function_value : (γ : Context) (v : Running) (a b : Ty) → OnlyQubits γ → Value v → Derives Unclaimed γ v (arrow a b)
-      → ((m : Running) × (v ≡ lam tt m)) ⊎ ((k : Const) × (v ≡ const tt k) × ((o : Bool) → k ≢ bit_of o))
-  pub pair_value : (γ : Context) (v : Running) (a b : Ty) → OnlyQubits γ → Value v → Derives Unclaimed γ v (tensor a b) → (w : Running) × (u : Running) × (v ≡ pair tt w u)
-  pub bit_value : (γ : Context) (v : Running) → OnlyQubits γ → Value v → Derives Unclaimed γ v bit → (o : Bool) × (v ≡ const tt (bit_of o))
+  pub function_value : (γ : Context) (v : Running) (a b : Ty)
+      → OnlyQubits γ → Value v → Derives Unclaimed γ v (arrow a b)
+      → ((m : Running) × (v ≡ lam tt m))
+      ⊎ ((k : Const) × (v ≡ const tt k) × ((o : Bool) → k ≢ bit_of o))
+  pub pair_value : (γ : Context) (v : Running) (a b : Ty)
+      → OnlyQubits γ → Value v → Derives Unclaimed γ v (tensor a b)
+      → (w : Running) × (u : Running) × (v ≡ pair tt w u)
+  pub bit_value : (γ : Context) (v : Running)
+      → OnlyQubits γ → Value v → Derives Unclaimed γ v bit
+      → (o : Bool) × (v ≡ const tt (bit_of o))

@@ -1,5 +1,9 @@
 -- What each letter stands for: how many parts follow, and which arguments are allowed.
 use Rattle.std.specs.Prelude.{ℕ, Bool, cond, is_some, Some, None, Option, ◌==◌, nat_lt}
+use Rattle.calculus.specs.Alphabet.{kind_bit, kind_qubit, kind_unit, kind_bang, kind_arrow}
+use Rattle.calculus.specs.Alphabet.{kind_pair, op_variable, op_qubit, op_gate, op_zero, op_one}
+use Rattle.calculus.specs.Alphabet.{op_measure, op_new, op_unit, op_function, op_application}
+use Rattle.calculus.specs.Alphabet.{op_pair, op_let, op_condition}
 use Rattle.calculus.specs.declared.cells.TermCell.{TermCell}
 use Rattle.calculus.specs.declared.cells.TypeCell.{TypeCell}
 use Rattle.calculus.specs.declared.ops.OpShape.{OpShape}
@@ -10,19 +14,19 @@ pub data Letter : Type 0 where
 
 abbrev pub letter : ℕ → Letter
 letter op =
-    cond (op == 118) at_v
-    (cond (op == 113) at_q
-    (cond (op == 103) at_g
-    (cond (op == 48) at_0
-    (cond (op == 49) at_1
-    (cond (op == 109) at_m
-    (cond (op == 110) at_n
-    (cond (op == 115) at_s
-    (cond (op == 108) at_l
-    (cond (op == 97) at_a
-    (cond (op == 112) at_p
-    (cond (op == 100) at_d
-    (cond (op == 105) at_i other))))))))))))
+    cond (op == op_variable) at_v
+    (cond (op == op_qubit) at_q
+    (cond (op == op_gate) at_g
+    (cond (op == op_zero) at_0
+    (cond (op == op_one) at_1
+    (cond (op == op_measure) at_m
+    (cond (op == op_new) at_n
+    (cond (op == op_unit) at_s
+    (cond (op == op_function) at_l
+    (cond (op == op_application) at_a
+    (cond (op == op_pair) at_p
+    (cond (op == op_let) at_d
+    (cond (op == op_condition) at_i other))))))))))))
 
 abbrev pub parts_of : Letter → ℕ
 parts_of at_v = 0
@@ -58,7 +62,9 @@ arguments_of at_i = 1
 arguments_of other = 0
 
 abbrev pub shape_of : Letter → Option OpShape
-shape_of l = cond (arguments_of l == 0) None (Some (record { parts = parts_of l; arguments = arguments_of l }))
+shape_of l =
+    cond (arguments_of l == 0) None
+    (Some (record { parts = parts_of l; arguments = arguments_of l }))
 
 -- the cell has a known letter and an argument that it allows
 abbrev pub allowed : TermCell → Bool
@@ -70,12 +76,12 @@ arity c = parts_of (letter c.op)
 -- the parts of a kind letter: b, q and u have none, ! has one, > and * have two
 abbrev pub kind_parts_of : ℕ → Option ℕ
 kind_parts_of k =
-    cond (k == 98) (Some 0)
-    (cond (k == 113) (Some 0)
-    (cond (k == 117) (Some 0)
-    (cond (k == 33) (Some 1)
-    (cond (k == 62) (Some 2)
-    (cond (k == 42) (Some 2) None)))))
+    cond (k == kind_bit) (Some 0)
+    (cond (k == kind_qubit) (Some 0)
+    (cond (k == kind_unit) (Some 0)
+    (cond (k == kind_bang) (Some 1)
+    (cond (k == kind_arrow) (Some 2)
+    (cond (k == kind_pair) (Some 2) None)))))
 
 abbrev none_as_zero : Option ℕ → ℕ
 none_as_zero None = 0

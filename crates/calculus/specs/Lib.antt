@@ -1,3 +1,4 @@
+pub mod Alphabet
 pub mod Cells
 pub mod Contexts
 pub mod Erasure

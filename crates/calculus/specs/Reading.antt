@@ -1,16 +1,21 @@
--- What cells mean: the types and the terms that stand at their places. A table is read from its last cell to its first,
--- each cell taking as its parts the trees that were read just after it.
-use Rattle.std.specs.Prelude.{◌≡◌, ℕ, Bool, true, false, cond, ◌&&◌, T, List, [], ◌∷◌, drop, Some, None, Option, ◌==◌}
+-- What cells mean: the types and the terms that stand at their places. A table is read from its
+-- last cell to its first. Each cell takes as its parts the trees that were read just after it.
+use Rattle.std.specs.Prelude.{◌≡◌, ℕ, Bool, true, false, cond, ◌&&◌, T, List, [], ◌∷◌, drop, Some}
+use Rattle.std.specs.Prelude.{None, Option, ◌==◌}
 use Rattle.std.specs.List.{flat_map}
+use Rattle.calculus.specs.Alphabet.{kind_bit, kind_qubit, kind_unit, kind_bang, kind_arrow}
 use Rattle.trees.specs.Whole.{whole}
 use Rattle.calculus.specs.declared.cells.TypeCell.{TypeCell}
 use Rattle.calculus.specs.declared.cells.TermCell.{TermCell}
 use Rattle.calculus.specs.declared.gates.Gate.{Gate}
 use Rattle.calculus.specs.declared.gates.Gate.TheVariants.{Toffoli}
 use Rattle.calculus.specs.Gates.{gate_of}
-use Rattle.calculus.specs.Letters.{Letter, at_v, at_q, at_g, at_0, at_1, at_m, at_n, at_s, at_l, at_a, at_p, at_d, at_i, other, letter, allowed, arity, known_kind, kind_arity}
+use Rattle.calculus.specs.Letters.{Letter, at_v, at_q, at_g, at_0, at_1, at_m, at_n, at_s, at_l}
+use Rattle.calculus.specs.Letters.{at_a, at_p, at_d, at_i, other, letter, allowed, arity}
+use Rattle.calculus.specs.Letters.{known_kind, kind_arity}
 use Rattle.calculus.specs.Types.{Ty, bit, qbit, unit, bang, arrow, tensor}
-use Rattle.calculus.specs.Terms.{bit_of, meas, new, gate, bound, held, Term, var, const, star, lam, app, pair, if_then_else, let_pair}
+use Rattle.calculus.specs.Terms.{bit_of, meas, new, gate, bound, held, Term, var, const, star, lam}
+use Rattle.calculus.specs.Terms.{app, pair, if_then_else, let_pair}
 use Rattle.calculus.specs.Cells.{type_cells, placed_cells}
 
 -- A list by its first element, with a default, and the others.
@@ -25,11 +30,11 @@ rest (x ∷ xs) = xs
 -- a type cell before cells that mean the types ts: b, q, u, !, >, *
 abbrev pub read_type : ℕ → List Ty → List Ty
 read_type k ts =
-    cond (k == 98) (bit ∷ ts)
-    (cond (k == 113) (qbit ∷ ts)
-    (cond (k == 117) (unit ∷ ts)
-    (cond (k == 33) (bang (top unit ts) ∷ rest ts)
-    (cond (k == 62) (arrow (top unit ts) (top unit (rest ts)) ∷ rest (rest ts))
+    cond (k == kind_bit) (bit ∷ ts)
+    (cond (k == kind_qubit) (qbit ∷ ts)
+    (cond (k == kind_unit) (unit ∷ ts)
+    (cond (k == kind_bang) (bang (top unit ts) ∷ rest ts)
+    (cond (k == kind_arrow) (arrow (top unit ts) (top unit (rest ts)) ∷ rest (rest ts))
     (tensor (top unit ts) (top unit (rest ts)) ∷ rest (rest ts))))))
 
 -- the types that the cells mean, one after the other
@@ -63,7 +68,9 @@ read_term at_l x c ms = lam c (top no_term ms) ∷ rest ms
 read_term at_a x c ms = app c (top no_term ms) (top no_term (rest ms)) ∷ rest (rest ms)
 read_term at_p x c ms = pair c (top no_term ms) (top no_term (rest ms)) ∷ rest (rest ms)
 read_term at_d x c ms = let_pair c (top no_term ms) (top no_term (rest ms)) ∷ rest (rest ms)
-read_term at_i x c ms = if_then_else c (top no_term ms) (top no_term (rest ms)) (top no_term (rest (rest ms))) ∷ rest (rest (rest ms))
+read_term at_i x c ms =
+    if_then_else c (top no_term ms) (top no_term (rest ms)) (top no_term (rest (rest ms)))
+    ∷ rest (rest (rest ms))
 read_term other x c ms = no_term ∷ ms
 
 -- the terms that the cells mean, one after the other, a claim being a place of the type table
@@ -91,7 +98,8 @@ TermsStand cells = T (every allowed cells) × T (whole arity cells)
 pub record ReadingLaws : Type 0 where
   pub types_written : (cs : List TypeCell) → TypesStand cs → cs ≡ flat_map type_cells (types_of cs)
   pub types_read : (ts : List Ty) → types_of (flat_map type_cells ts) ≡ ts
-  pub terms_written : (cs : List TermCell) → TermsStand cs → cs ≡ flat_map placed_cells (terms_of cs)
+  pub terms_written : (cs : List TermCell) → TermsStand cs
+      → cs ≡ flat_map placed_cells (terms_of cs)
   pub terms_read : (ms : List (Term ℕ)) → terms_of (flat_map placed_cells ms) ≡ ms
   -- equal cells are equal types
   pub same_cells : (a b : Ty) → type_cells a ≡ type_cells b → a ≡ b

@@ -1,4 +1,5 @@
--- Equality and subtyping of types as tests: leading marks are stripped, heads compared, and parts tested in turn.
+-- Equality and subtyping of types as tests. Leading marks are stripped, heads compared, and parts
+-- tested in turn.
 use Rattle.std.specs.Prelude.{◌≡◌, ℕ, zero, suc, Bool, true, false, not, ◌&&◌, T, ◌↔◌}
 use Rattle.calculus.specs.Types.{Ty, bit, qbit, unit, bang, arrow, tensor, bangs, TyDiscrete, Sub}
 
@@ -78,8 +79,14 @@ agree s bit t = same (core t) bit
 agree s qbit t = same (core t) qbit
 agree s unit t = same (core t) unit
 agree s (bang a) t = agree s a t
-agree s (arrow a b) t = is_arrow t && ((fit (not s) a (first t) && agree (not s) a (first t)) && (fit s b (second t) && agree s b (second t)))
-agree s (tensor a b) t = is_tensor t && ((fit s a (first t) && agree s a (first t)) && (fit s b (second t) && agree s b (second t)))
+agree s (arrow a b) t =
+    is_arrow t
+    && ((fit (not s) a (first t) && agree (not s) a (first t))
+    && (fit s b (second t) && agree s b (second t)))
+agree s (tensor a b) t =
+    is_tensor t
+    && ((fit s a (first t) && agree s a (first t))
+    && (fit s b (second t) && agree s b (second t)))
 
 abbrev pub subtype : Ty → Ty → Bool
 subtype a b = fit true a b && agree true a b

@@ -96,7 +96,8 @@ reclaimed f (star c) = star (f c)
 reclaimed f (lam c m) = lam (f c) (reclaimed f m)
 reclaimed f (app c m n) = app (f c) (reclaimed f m) (reclaimed f n)
 reclaimed f (pair c m n) = pair (f c) (reclaimed f m) (reclaimed f n)
-reclaimed f (if_then_else c p m n) = if_then_else (f c) (reclaimed f p) (reclaimed f m) (reclaimed f n)
+reclaimed f (if_then_else c p m n) =
+    if_then_else (f c) (reclaimed f p) (reclaimed f m) (reclaimed f n)
 reclaimed f (let_pair c m n) = let_pair (f c) (reclaimed f m) (reclaimed f n)
 
 -- the term without its claims

@@ -1,5 +1,6 @@
--- The types of the calculus and their subtyping, as in Selinger and Valiron, "A lambda calculus for quantum computation with classical
--- control", which these pages call the article. Its ⊤, ⊸ and ⊗ are unit, arrow and tensor.
+-- The types of the calculus and their subtyping, as in Selinger and Valiron, "A lambda calculus for
+-- quantum computation with classical control". These pages call it the article. Its ⊤, ⊸ and ⊗ are
+-- unit, arrow and tensor.
 use Rattle.std.specs.Prelude.{ℕ, zero, suc}
 
 pub data Ty : Type 0 where

@@ -1,4 +1,5 @@
-//! The letters and cells of the quantum lambda calculus, its gates and its limits; what cells mean, and the calculus' safety, as theorems.
+//! The letters and cells of the quantum lambda calculus, its gates and its limits. Theorems say
+//! what cells mean, and that the calculus is safe.
 #![tactic(auto)]
 
 mod cells;

@@ -1,4 +1,5 @@
-//! What cells mean, and what the tests of types decide. Each function stands for a theorem: its contract is the theorem's statement.
+//! What cells mean, and what the tests of types decide. Each function stands for a theorem: its
+//! contract is the theorem's statement.
 
 ghost use Rattle.calculus.specs.Reading.{ReadingLaws};
 ghost use Rattle.calculus.specs.Stripping.{SameExact, SubtypeExact};

@@ -1,7 +1,8 @@
 //! What each letter stands for: how many parts follow it, and which arguments it allows.
 
 ghost use Rattle.std.specs.Prelude.{◌≡◌, Some};
-ghost use Rattle.calculus.specs.Letters.{letter, shape_of, kind_parts_of, allowed, kind_arity, arity};
+ghost use Rattle.calculus.specs.Letters.{letter, shape_of, kind_parts_of};
+ghost use Rattle.calculus.specs.Letters.{allowed, kind_arity, arity};
 
 use crate::cells::{TermCell, TypeCell};
 use trees::Cell;
@@ -19,7 +20,8 @@ fn shape(parts: usize, arguments: usize) -> Option<OpShape>
     Some(OpShape { parts, arguments })
 }
 
-/// The op letter alone decides the number of parts and the arguments; nothing for a letter that is no op.
+/// The op letter alone decides the number of parts and the arguments. A letter that is no op has
+/// none.
 pub fn op_shape(op: char) -> Option<OpShape>
     ensures { result ≡ shape_of (letter op) }
 {

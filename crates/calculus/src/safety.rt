@@ -1,9 +1,12 @@
-//! Subtyping, typing, reduction, and the safety of the calculus. Each function stands for a theorem: its contract is the theorem's statement.
+//! Subtyping, typing, reduction, and the safety of the calculus. Each function stands for a
+//! theorem: its contract is the theorem's statement.
 
 ghost use Rattle.calculus.specs.Erasure.{ErasureLaws};
 ghost use Rattle.calculus.specs.Lemmas.{SubtypingLaws, TypingLaws};
 ghost use Rattle.calculus.specs.Runs.{SafeRuns};
-ghost use Rattle.calculus.specs.Safety.{SubjectReduction, Progress, GatesAreApart, NoWayNamesTwice, Deterministic, ValuesRest, OneRequest, DuplicableValuesNameNone};
+ghost use Rattle.calculus.specs.Safety.{SubjectReduction, Progress, GatesAreApart};
+ghost use Rattle.calculus.specs.Safety.{NoWayNamesTwice, Deterministic, ValuesRest};
+ghost use Rattle.calculus.specs.Safety.{OneRequest, DuplicableValuesNameNone};
 ghost use Rattle.calculus.specs.Samples.{Judged};
 
 /// A well-typed term that takes a step keeps its type.
@@ -47,7 +50,8 @@ pub fn typing_is_lawful()
     ensures { TypingLaws }
 {}
 
-/// Wherever a run of a well-typed term comes, the term has its type, and is a value or has a next step.
+/// Wherever a run of a well-typed term comes, the term has its type. It is a value or has a next
+/// step.
 pub fn runs_are_safe()
     ensures { SafeRuns }
 {}

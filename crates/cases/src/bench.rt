@@ -1,4 +1,5 @@
-//! A controller, called call by call: its answers, all cells of the tables handed over, and the register's live qubits and pulses.
+//! A controller, called call by call: its answers, all cells of the tables handed over, and the
+//! register's live qubits and pulses.
 
 use crate::making::{KIND_MARK, MARK, front_of, kinds, terms};
 use calculus::{TermCell, TypeCell};
@@ -13,7 +14,8 @@ use std::test::Fail;
 #[derive(Clone, Copy, Drop)]
 pub struct Stored<'a>(pub &'a str, pub &'a str);
 
-/// A call, with the cells of the tables that it is handed; for a collect also the types that it is to write.
+/// A call, with the cells of the tables that it is handed; for a collect also the types that it is
+/// to write.
 #[derive(Clone, Copy, Drop)]
 pub enum Call<'a> {
     Load(Stored<'a>),
@@ -35,10 +37,12 @@ pub enum Reply {
     Stopped(u64, u16, u64, u16),
 }
 
-/// An answer. A refusal has its number, its place, and the depth of a register's fault, 0 for any other.
+/// An answer. A refusal has its number, its place, and the depth of a register's fault, 0 for any
+/// other.
 pub type Answer = Result<Reply, (u16, u64, u16)>;
 
-/// A call, its reply, the cells that it writes at the front of its table, and then the register's live count and pulses.
+/// A call, its reply, the cells that it writes at the front of its table, and then the register's
+/// live count and pulses.
 #[derive(Drop)]
 pub struct Turn<'a>(pub Call<'a>, pub Answer, pub &'a str, pub usize, pub u64);
 

@@ -128,7 +128,8 @@ const RULES: &[Case] = &[
     Case(">q>bq", "l l.2 v1.4", None),
     Case(">q!>b>bq", "l l.2 l.5 v2.7", Some((28, 1))),
     Case(">q>b!>bq", "l l.2 l.4 v2.7", Some((28, 2))),
-    // Of two faults: a cell's claims before what is inside, its variables after it, the left part before the right.
+    // Of two faults: a cell's claims before what is inside, its variables after it, the left part
+    // before the right.
     Case("b", "a v v", Some((26, 0))),
     Case(">q*qqb", "l.5 p.2 v.3 v.4", Some((26, 0))),
     Case(">q!>b*qq", "l l.2 p.5 v1.6 v1.7", Some((27, 2))),
@@ -164,24 +165,38 @@ fn programs(rt: HostRuntime) -> Result<(), Fail> {
 // Two types, and whether the first is a subtype of the second.
 #[rattlefmt::skip]
 const SUBTYPES: &[(&str, &str, bool)] = &[
-    ("b", "b", true), ("q", "q", true), ("u", "u", true), ("q", "b", false), ("u", "q", false), (">bb", "*bb", false), ("b", "*bb", false),
-    ("!b", "b", true), ("b", "!b", false), ("!b", "!!b", true), ("!!b", "!b", true), ("!!b", "b", true), ("b", "!!b", false), ("!u", "q", false),
-    ("*bq", "*bq", true), ("*bq", "*qb", false), ("*!bb", "*bb", true), ("*bb", "*!bb", false), ("*b!b", "*bb", true), ("*bb", "*b!b", false),
-    ("!*bb", "*bb", true), ("*bb", "!*bb", false), ("!*bb", "*!b!b", false), ("*!b!b", "!*bb", false), ("*!!b!q", "*!!!bq", true),
-    (">bb", ">bb", true), (">b!b", ">bb", true), (">bb", ">b!b", false), (">bb", ">!bb", true), (">!bb", ">bb", false), ("!>bb", ">bb", true), (">bb", "!>bb", false),
-    (">>!bbb", ">>bbb", true), (">>bbb", ">>!bbb", false), ("!!>!!b!b", "!>!b!!b", true), ("*>bb>bb", "*>!bb>!bb", true), (">*bbb", ">*!b!bb", true), (">*!bbb", ">*bbb", false),
+    ("b", "b", true), ("q", "q", true), ("u", "u", true), ("q", "b", false),
+    ("u", "q", false), (">bb", "*bb", false), ("b", "*bb", false),
+    ("!b", "b", true), ("b", "!b", false), ("!b", "!!b", true), ("!!b", "!b", true),
+    ("!!b", "b", true), ("b", "!!b", false), ("!u", "q", false),
+    ("*bq", "*bq", true), ("*bq", "*qb", false), ("*!bb", "*bb", true),
+    ("*bb", "*!bb", false), ("*b!b", "*bb", true), ("*bb", "*b!b", false),
+    ("!*bb", "*bb", true), ("*bb", "!*bb", false), ("!*bb", "*!b!b", false),
+    ("*!b!b", "!*bb", false), ("*!!b!q", "*!!!bq", true),
+    (">bb", ">bb", true), (">b!b", ">bb", true), (">bb", ">b!b", false), (">bb", ">!bb", true),
+    (">!bb", ">bb", false), ("!>bb", ">bb", true), (">bb", "!>bb", false),
+    (">>!bbb", ">>bbb", true), (">>bbb", ">>!bbb", false), ("!!>!!b!b", "!>!b!!b", true),
+    ("*>bb>bb", "*>!bb>!bb", true), (">*bbb", ">*!b!bb", true), (">*!bbb", ">*bbb", false),
 ];
 
 // Constants, the types that they claim, and whether they may.
 #[rattlefmt::skip]
 const CONSTANTS: &[(&str, &str, bool)] = &[
-    ("0", "b", true), ("0", "!b", true), ("0", "!!b", true), ("0", "q", false), ("0", "u", false), ("1", "b", true), ("1", "!!!b", true), ("1", "*bb", false),
-    ("n", ">bq", true), ("n", "!>bq", true), ("n", "!!>bq", true), ("n", ">!bq", true), ("n", ">b!q", false), ("n", ">qb", false), ("n", ">qq", false), ("n", "q", false),
-    ("m", ">qb", true), ("m", ">q!b", true), ("m", "!>q!b", true), ("m", ">q!!b", true), ("m", ">!qb", true), ("m", ">bb", false), ("m", ">qq", false),
-    ("g", ">qq", true), ("g1", "!>qq", true), ("g2", ">!qq", true), ("g3", ">q!q", false), ("g4", ">qq", true), ("g4", ">*qq*qq", false), ("g", ">bb", false),
-    ("g5", ">*qq*qq", true), ("g6", "!>*qq*qq", true), ("g5", ">qq", false), ("g6", ">!*qq*qq", true), ("g5", ">*!qq*qq", true), ("g5", ">*qq!*qq", false), ("g6", ">*qq*q!q", false),
-    ("g7", ">*q*qq*q*qq", true), ("g7", ">**qqq**qqq", false), ("g7", ">*qq*qq", false), ("g7", "!>*!q*qq*q*qq", true), ("g7", ">*q*qq!*q*qq", false),
-    ("s", "u", true), ("s", "!u", true), ("s", "!!!u", true), ("s", "b", false), ("s", "!b", false), ("s", "*uu", false),
+    ("0", "b", true), ("0", "!b", true), ("0", "!!b", true), ("0", "q", false),
+    ("0", "u", false), ("1", "b", true), ("1", "!!!b", true), ("1", "*bb", false),
+    ("n", ">bq", true), ("n", "!>bq", true), ("n", "!!>bq", true), ("n", ">!bq", true),
+    ("n", ">b!q", false), ("n", ">qb", false), ("n", ">qq", false), ("n", "q", false),
+    ("m", ">qb", true), ("m", ">q!b", true), ("m", "!>q!b", true), ("m", ">q!!b", true),
+    ("m", ">!qb", true), ("m", ">bb", false), ("m", ">qq", false),
+    ("g", ">qq", true), ("g1", "!>qq", true), ("g2", ">!qq", true), ("g3", ">q!q", false),
+    ("g4", ">qq", true), ("g4", ">*qq*qq", false), ("g", ">bb", false),
+    ("g5", ">*qq*qq", true), ("g6", "!>*qq*qq", true), ("g5", ">qq", false),
+    ("g6", ">!*qq*qq", true), ("g5", ">*!qq*qq", true),
+    ("g5", ">*qq!*qq", false), ("g6", ">*qq*q!q", false),
+    ("g7", ">*q*qq*q*qq", true), ("g7", ">**qqq**qqq", false), ("g7", ">*qq*qq", false),
+    ("g7", "!>*!q*qq*q*qq", true), ("g7", ">*q*qq!*q*qq", false),
+    ("s", "u", true), ("s", "!u", true), ("s", "!!!u", true),
+    ("s", "b", false), ("s", "!b", false), ("s", "*uu", false),
 ];
 
 #[test]
@@ -212,8 +227,8 @@ fn claims(rt: HostRuntime) -> Result<(), Fail> {
     Ok(())
 }
 
-// So many functions within each other, all of bits, the innermost body, and the verdict. The type of that body stands at twice
-// the number of functions, and after it a pair of bits and a qubit.
+// So many functions within each other, all of bits, the innermost body, and the verdict. The type
+// of that body stands at twice the number of functions, and after it a pair of bits and a qubit.
 #[rattlefmt::skip]
 const NESTED: &[(usize, &str, Verdict)] = &[
     (32, "v31.64", None),

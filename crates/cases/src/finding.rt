@@ -1,4 +1,5 @@
-//! Running terms: the rule that applies and its cell, a value, or the number and the cell of a refusal.
+//! Running terms: the rule that applies and its cell, a value, or the number and the cell of a
+//! refusal.
 
 use crate::making::terms;
 use finder::{Rule, find};
@@ -15,7 +16,10 @@ fn look(heap: Global, text: &str) -> Result<Found, AllocError> {
 }
 
 #[rattlefmt::skip]
-const VALUES: &[&str] = &["v", "v65535", "0", "1", "m", "n", "s", "g7", "q31", "l v", "l a n 0", "l a 0 1", "p 0 1", "p p q q1 l a 0 1", "p v l s"];
+const VALUES: &[&str] = &[
+    "v", "v65535", "0", "1", "m", "n", "s", "g7", "q31",
+    "l v", "l a n 0", "l a 0 1", "p 0 1", "p p q q1 l a 0 1", "p v l s",
+];
 
 #[rattlefmt::skip]
 const REDEXES: &[(&str, Rule, usize)] = &[
@@ -51,13 +55,18 @@ const REDEXES: &[(&str, Rule, usize)] = &[
 #[rattlefmt::skip]
 const REFUSED: &[(&str, u16, usize)] = &[
     ("a 0 1", 36, 0), ("a v 0", 36, 0), ("a s 0", 36, 0), ("a q 0", 36, 0), ("a p 0 1 0", 36, 0),
-    ("a n q", 36, 0), ("a n s", 36, 0), ("a n v", 36, 0), ("a n p 0 1", 36, 0), ("a m 0", 36, 0), ("a m p q q", 36, 0),
-    ("a g 0", 36, 0), ("a g p q q", 36, 0), ("a g5 q", 36, 0), ("a g5 p q 0", 36, 0), ("a g6 p 0 q", 36, 0), ("a g5 p q p q q", 36, 0),
+    ("a n q", 36, 0), ("a n s", 36, 0), ("a n v", 36, 0),
+    ("a n p 0 1", 36, 0), ("a m 0", 36, 0), ("a m p q q", 36, 0),
+    ("a g 0", 36, 0), ("a g p q q", 36, 0), ("a g5 q", 36, 0),
+    ("a g5 p q 0", 36, 0), ("a g6 p 0 q", 36, 0), ("a g5 p q p q q", 36, 0),
     ("a g7 p p q q1 q2", 36, 0), ("a g7 p q q1", 36, 0), ("a g7 q", 36, 0),
     ("d 0 v", 36, 0), ("d q s", 36, 0), ("d l v v", 36, 0), ("d v v", 36, 0),
-    ("i q 0 1", 36, 0), ("i s 0 1", 36, 0), ("i l v 0 1", 36, 0), ("i v 0 1", 36, 0), ("i p 0 1 0 1", 36, 0),
-    ("p 0 a 0 1", 36, 2), ("p a 0 1 a n 0", 36, 1), ("a a n 0 a 0 1", 36, 4), ("a a 0 1 0", 36, 1), ("i a 0 1 0 1", 36, 1), ("d a 0 1 v", 36, 1),
-    ("x", 21, 0), ("a n x", 21, 2), ("q32", 21, 0), ("g8", 21, 0), ("01", 21, 0), ("l1 v", 21, 0), ("a1 n 0", 21, 0), ("p s q65535", 21, 2),
+    ("i q 0 1", 36, 0), ("i s 0 1", 36, 0), ("i l v 0 1", 36, 0),
+    ("i v 0 1", 36, 0), ("i p 0 1 0 1", 36, 0),
+    ("p 0 a 0 1", 36, 2), ("p a 0 1 a n 0", 36, 1), ("a a n 0 a 0 1", 36, 4),
+    ("a a 0 1 0", 36, 1), ("i a 0 1 0 1", 36, 1), ("d a 0 1 v", 36, 1),
+    ("x", 21, 0), ("a n x", 21, 2), ("q32", 21, 0), ("g8", 21, 0),
+    ("01", 21, 0), ("l1 v", 21, 0), ("a1 n 0", 21, 0), ("p s q65535", 21, 2),
     ("", 22, 0), ("a n", 22, 0), ("l", 22, 0), ("i 0 1", 22, 0), ("0 1", 22, 1), ("a n 0 s", 22, 3),
     // The lower number first.
     ("0 x", 21, 1), ("a x", 21, 1), ("a 0 1 q32", 21, 3), ("a 0 1 s", 22, 3), ("a 0", 22, 0),

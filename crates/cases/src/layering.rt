@@ -7,8 +7,8 @@ use registers::{Cap, Entry, Level, Register, Tape};
 use std::process::Abort;
 use std::test::Fail;
 
-// A level of a capacity under two caps, with so many pulses: the capacity of the whole, how many prepares are accepted,
-// and the number and depth of the refusal that follows.
+// A level of a capacity under two caps, with so many pulses: the capacity of the whole, how many
+// prepares are accepted, and the number and depth of the refusal that follows.
 #[derive(Drop)]
 struct Layers {
     level: usize,
@@ -34,11 +34,16 @@ const LAYERS: &[Layers] = &[
     Layers { level: 4, inner: 0, outer: 4, pulses: 9, capacity: 0, accepted: 0, refusal: (42, 1) },
     Layers { level: 0, inner: 4, outer: 4, pulses: 9, capacity: 0, accepted: 0, refusal: (42, 2) },
     Layers { level: 4, inner: 4, outer: 0, pulses: 0, capacity: 0, accepted: 0, refusal: (41, 2) },
-    Layers { level: 99, inner: 98, outer: 97, pulses: 50, capacity: 32, accepted: 32, refusal: (42, 2) },
-    Layers { level: 32, inner: 33, outer: 32, pulses: 50, capacity: 32, accepted: 32, refusal: (42, 0) },
+    Layers {
+        level: 99, inner: 98, outer: 97, pulses: 50, capacity: 32, accepted: 32, refusal: (42, 2),
+    },
+    Layers {
+        level: 32, inner: 33, outer: 32, pulses: 50, capacity: 32, accepted: 32, refusal: (42, 0),
+    },
 ];
 
-// A cap of 2 over a cap of 3 over a level of 4 with 9 pulses: every fault but the cap's own comes from two layers below.
+// A cap of 2 over a cap of 3 over a level of 4 with 9 pulses: every fault but the cap's own comes
+// from two layers below.
 #[rattlefmt::skip]
 const CAPPED: &[Asked] = &[
     Asked(Ask::Gate(Gate::H, &[9]), Err((43, 2)), 0, 9),

@@ -1,4 +1,5 @@
-//! Tables of cases for the public calls of the unit: exact answers, places, and what each call leaves.
+//! Tables of cases for the public calls of the unit: exact answers, places, and what each call
+//! leaves.
 #![tactic(auto)]
 
 #[cfg(test)]

@@ -33,7 +33,8 @@ fn cell_of(word: &str) -> Option<TermCell> {
     })
 }
 
-/// A term cell for each word: its op, its argument in digits if it is not 0, and after a dot its claim if it is not 0.
+/// A term cell for each word: its op, its argument in digits if it is not 0, and after a dot its
+/// claim if it is not 0.
 pub fn terms(heap: Global, text: &str) -> Result<Vec<TermCell>, AllocError> {
     text.split(' ').filter_map(cell_of).collect(heap)
 }

@@ -9,10 +9,24 @@ use registers::{Entry, Tape};
 use std::test::Fail;
 use verdict::{CheckFault, CheckReason};
 
-// The program of examples/budget.ql, 120 cells: g10 (meas (H (new 0))), where each of g1 to g10 calls
-// the one before it twice. It takes 4,096 steps.
+// The program of examples/budget.ql, 120 cells: g10 (meas (H (new 0))), where each of g1 to g10
+// calls the one before it twice. It takes 4,096 steps.
 #[rattlefmt::skip]
-const DOUBLED: &str = "QL 1/T b/T >/T b/T b/T >/T !/T >/T b/T b/T >/T b/T b/T >/T q/T b/T >/T q/T q/T >/T b/T q/M a 0 0/M l 0 1/M a 0 0/M a 0 1/M l 0 4/M l 0 1/M a 0 0/M v 1 1/M a 0 0/M v 1 1/M v 0 0/M l 0 5/M a 0 0/M a 0 1/M l 0 4/M l 0 1/M a 0 0/M v 1 1/M a 0 0/M v 1 1/M v 0 0/M l 0 5/M a 0 0/M a 0 1/M l 0 4/M l 0 1/M a 0 0/M v 1 1/M a 0 0/M v 1 1/M v 0 0/M l 0 5/M a 0 0/M a 0 1/M l 0 4/M l 0 1/M a 0 0/M v 1 1/M a 0 0/M v 1 1/M v 0 0/M l 0 5/M a 0 0/M a 0 1/M l 0 4/M l 0 1/M a 0 0/M v 1 1/M a 0 0/M v 1 1/M v 0 0/M l 0 5/M a 0 0/M a 0 1/M l 0 4/M l 0 1/M a 0 0/M v 1 1/M a 0 0/M v 1 1/M v 0 0/M l 0 5/M a 0 0/M a 0 1/M l 0 4/M l 0 1/M a 0 0/M v 1 1/M a 0 0/M v 1 1/M v 0 0/M l 0 5/M a 0 0/M a 0 1/M l 0 4/M l 0 1/M a 0 0/M v 1 1/M a 0 0/M v 1 1/M v 0 0/M l 0 5/M a 0 0/M a 0 1/M l 0 4/M l 0 1/M a 0 0/M v 1 1/M a 0 0/M v 1 1/M v 0 0/M l 0 5/M a 0 0/M a 0 1/M l 0 4/M l 0 1/M a 0 0/M v 1 1/M a 0 0/M v 1 1/M v 0 0/M l 0 5/M v 0 0/M v 0 0/M v 0 0/M v 0 0/M v 0 0/M v 0 0/M v 0 0/M v 0 0/M v 0 0/M v 0 0/M v 0 0/M a 0 0/M m 0 12/M a 0 13/M g 0 15/M a 0 13/M n 0 18/M 0 0 0/E 21 120/";
+const DOUBLED: &str = "\
+    QL 1/T b/T >/T b/T b/T >/T !/T >/T b/T b/T >/T b/T b/T >/T q/T b/T >/T q/T q/T >/T b/T q/\
+    M a 0 0/M l 0 1/\
+    M a 0 0/M a 0 1/M l 0 4/M l 0 1/M a 0 0/M v 1 1/M a 0 0/M v 1 1/M v 0 0/M l 0 5/\
+    M a 0 0/M a 0 1/M l 0 4/M l 0 1/M a 0 0/M v 1 1/M a 0 0/M v 1 1/M v 0 0/M l 0 5/\
+    M a 0 0/M a 0 1/M l 0 4/M l 0 1/M a 0 0/M v 1 1/M a 0 0/M v 1 1/M v 0 0/M l 0 5/\
+    M a 0 0/M a 0 1/M l 0 4/M l 0 1/M a 0 0/M v 1 1/M a 0 0/M v 1 1/M v 0 0/M l 0 5/\
+    M a 0 0/M a 0 1/M l 0 4/M l 0 1/M a 0 0/M v 1 1/M a 0 0/M v 1 1/M v 0 0/M l 0 5/\
+    M a 0 0/M a 0 1/M l 0 4/M l 0 1/M a 0 0/M v 1 1/M a 0 0/M v 1 1/M v 0 0/M l 0 5/\
+    M a 0 0/M a 0 1/M l 0 4/M l 0 1/M a 0 0/M v 1 1/M a 0 0/M v 1 1/M v 0 0/M l 0 5/\
+    M a 0 0/M a 0 1/M l 0 4/M l 0 1/M a 0 0/M v 1 1/M a 0 0/M v 1 1/M v 0 0/M l 0 5/\
+    M a 0 0/M a 0 1/M l 0 4/M l 0 1/M a 0 0/M v 1 1/M a 0 0/M v 1 1/M v 0 0/M l 0 5/\
+    M a 0 0/M a 0 1/M l 0 4/M l 0 1/M a 0 0/M v 1 1/M a 0 0/M v 1 1/M v 0 0/M l 0 5/\
+    M v 0 0/M v 0 0/M v 0 0/M v 0 0/M v 0 0/M v 0 0/M v 0 0/M v 0 0/M v 0 0/M v 0 0/M v 0 0/\
+    M a 0 0/M m 0 12/M a 0 13/M g 0 15/M a 0 13/M n 0 18/M 0 0 0/E 21 120/";
 
 // What is replied to the turns of the row.
 const WANTED: [Option<Reply>; 9] = [

@@ -6,7 +6,8 @@ use std::process::Abort;
 use std::test::Fail;
 use trees::{Cell, copy, count, first_failing, reach};
 
-// Cells, the start of a tree in them, one past its end, how many trees all the cells are, and the first cell with an unknown letter.
+// Cells, the start of a tree in them, one past its end, how many trees all the cells are, and the
+// first cell with an unknown letter.
 #[derive(Drop)]
 struct Case<'a> {
     text: &'a str,
@@ -43,7 +44,8 @@ fn copies<T: Cell + PartialEq + Drop>(
     starts_with(rt, table, front, mark, case.text)
 }
 
-// Asks every question about the cells of a case, and copies the tree into every front of a table but the whole.
+// Asks every question about the cells of a case, and copies the tree into every front of a table
+// but the whole.
 fn examine<T: Cell + PartialEq + Drop>(
     rt: &impl Abort,
     cells: &[T],

@@ -48,7 +48,8 @@ fn reads(rt: &impl Abort, heap: Global, case: &Case) -> Result<(), Fail> {
 #[rattlefmt::skip]
 const FIRST_LINES: &[(&str, u16)] = &[
     ("", 15), ("QL\t1", 15), ("XX", 15), ("QL 1", 15), ("QL\t1\r", 15),
-    ("\n", 11), ("QL\t1\r\n", 11), ("QL 1\n", 11), ("ql\t1\n", 11), ("QL\t10\n", 11), ("QL\t2\n", 11), ("QL\n", 11), ("QL\t1\t\n", 11), ("\tQL\t1\n", 11),
+    ("\n", 11), ("QL\t1\r\n", 11), ("QL 1\n", 11), ("ql\t1\n", 11), ("QL\t10\n", 11),
+    ("QL\t2\n", 11), ("QL\n", 11), ("QL\t1\t\n", 11), ("\tQL\t1\n", 11),
     ("T\tb\n", 11), ("E\t0\t0\n", 11), ("QL\t01\nQL\t1\nE\t9\t9\nx", 11), ("QL\nM\tz\t00\t0\n", 11),
 ];
 
@@ -137,7 +138,10 @@ const LATER_LINES: &[Case] = &[
     // Accepted.
     Case("M\tq\t5\t9\nE\t0\t1\n", (9, 9), Ok((0, 1)), "", "q5.9"),
     Case("T\t!\nT\t>\nE\t2\t0\n", (2, 0), Ok((2, 0)), "!>", ""),
-    Case("T\tb\nM\tg\t65535\t65535\nM\ti\t10\t0\nE\t1\t2\n", (1, 2), Ok((1, 2)), "b", "g65535.65535 i10"),
+    Case(
+        "T\tb\nM\tg\t65535\t65535\nM\ti\t10\t0\nE\t1\t2\n",
+        (1, 2), Ok((1, 2)), "b", "g65535.65535 i10",
+    ),
 ];
 
 #[test]
@@ -156,8 +160,10 @@ fn later_lines(rt: HostRuntime) -> Result<(), Fail> {
 
 #[rattlefmt::skip]
 const NUMBERS: &[(&str, bool)] = &[
-    ("0", true), ("9", true), ("10", true), ("65535", true), ("65536", false), ("99999", false), ("100000", false), ("000000", false), ("", false), ("00", false), ("01", false),
-    ("-1", false), ("+1", false), ("1a", false), ("a", false), (" 1", false), ("1 ", false), ("1.", false), ("²", false), ("1\r", false),
+    ("0", true), ("9", true), ("10", true), ("65535", true), ("65536", false), ("99999", false),
+    ("100000", false), ("000000", false), ("", false), ("00", false), ("01", false),
+    ("-1", false), ("+1", false), ("1a", false), ("a", false), (" 1", false),
+    ("1 ", false), ("1.", false), ("²", false), ("1\r", false),
 ];
 
 #[test]

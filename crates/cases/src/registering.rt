@@ -6,7 +6,8 @@ use registers::{Entry, Level, Register, Tape};
 use std::process::Abort;
 use std::test::Fail;
 
-// A tape of capacity 2 with 7 pulses: 44 before 45 before 46, a missing handle before one given twice, 41 before all.
+// A tape of capacity 2 with 7 pulses: 44 before 45 before 46, a missing handle before one given
+// twice, 41 before all.
 #[rattlefmt::skip]
 const TAPE: &[Asked] = &[
     Asked(Ask::Gate(Gate::H, &[0]), Err((45, 0)), 0, 7),

@@ -1,5 +1,6 @@
 -- The verdict on a whole program, and what it decides.
 use Rattle.std.specs.Prelude.{◌≡◌, ℕ, ◌≤◌, Bool, T, ◌↔◌, List, length, is_ok}
+use Rattle.calculus.specs.declared.limits.TheConstants.{MOST_TYPE_CELLS, MOST_TERM_CELLS}
 use Rattle.calculus.specs.Cells.{placed_cells}
 use Rattle.calculus.specs.Contexts.{empty}
 use Rattle.calculus.specs.Reading.{type_at, every, TypesStand}
@@ -21,21 +22,23 @@ program_verdict types terms = tables_tested types terms then verdict (meaning ty
 abbrev pub accepts : List TypeCell → List TermCell → Bool
 accepts types terms = is_ok (program_verdict types terms)
 
--- The tables store the term m, within the limits: the type table is whole trees of known kinds, and the term table is the cells
--- of one term that claims places of the type table, and names no qubit.
+-- The tables store the term m, within the limits. The type table is whole trees of known kinds. The
+-- term table is the cells of one term, which claims places of the type table and names no qubit.
 pub record Stores (types : List TypeCell) (terms : List TermCell) (m : Term Ty) : Type 0 where
   pub types_stand : TypesStand types
-  pub few_types : length types ≤ 256
-  pub few_terms : length terms ≤ 512
+  pub few_types : length types ≤ MOST_TYPE_CELLS
+  pub few_terms : length terms ≤ MOST_TERM_CELLS
   pub stored : T (every storable terms)
   pub claims : T (every (claim_in (length types)) terms)
   pub placed : Term ℕ
   pub cells : terms ≡ placed_cells placed
   pub means : m ≡ reclaimed (type_at types) placed
 
--- The tables store a term that has a derivation by the typing rules, with its claims, and nests at most 32 binders.
+-- The tables store a term that has a derivation by the typing rules, with its claims, and nests at
+-- most 32 binders.
 abbrev pub IsDerivable : List TypeCell → List TermCell → Type 0
-IsDerivable types terms = (m : Term Ty) × (Stores types terms m × ((nested m ≤ 32) × Derives Claimed empty m (claim_of m)))
+IsDerivable types terms = (m : Term Ty) × (Stores types terms m
+    × ((nested m ≤ 32) × Derives Claimed empty m (claim_of m)))
 
 -- Two tables are accepted just where what they store is derivable.
 abbrev pub CheckingIsExact : Type 0

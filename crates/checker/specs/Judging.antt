@@ -1,5 +1,7 @@
--- What the judging of a term speaks of: the terms at its nodes, their parts, and the binders around them.
-use Rattle.std.specs.Prelude.{◌≡◌, ℕ, ◌+◌, List, Ok, Err, Result, slice_index_or, ◌++◌, map, reverse}
+-- What the judging of a term speaks of: the terms at its nodes, their parts, and the binders around
+-- them.
+use Rattle.std.specs.Prelude.{◌≡◌, ℕ, ◌+◌, List, ◌++◌, map, reverse}
+use Rattle.std.specs.Prelude.{slice_index_or, Ok, Err, Result}
 use Rattle.calculus.specs.Cells.{blank}
 use Rattle.calculus.specs.declared.cells.TypeCell.{TypeCell}
 use Rattle.calculus.specs.declared.cells.TermCell.{TermCell}

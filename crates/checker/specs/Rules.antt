@@ -2,7 +2,8 @@
 use Rattle.std.specs.Prelude.{ℕ, Bool, true, false, Some, None, Option}
 use Rattle.calculus.specs.declared.gates.Gate.{Gate}
 use Rattle.calculus.specs.Gates.{gate_of}
-use Rattle.calculus.specs.Letters.{Letter, at_v, at_q, at_g, at_0, at_1, at_m, at_n, at_s, at_l, at_a, at_p, at_d, at_i, other}
+use Rattle.calculus.specs.Letters.{Letter, other, at_v, at_q, at_g, at_0, at_1}
+use Rattle.calculus.specs.Letters.{at_m, at_n, at_s, at_l, at_a, at_p, at_d, at_i}
 use Rattle.calculus.specs.Terms.{Const, bit_of, meas, new, gate, type_of}
 use Rattle.calculus.specs.Types.{Ty}
 use Rattle.verdict.specs.Claims.{constant_fits}

@@ -1,6 +1,9 @@
--- The binders in scope, in a record whose outermost level is 0, and the sets of those that are used.
-use Rattle.std.specs.Prelude.{◌≡◌, ℕ, ◌+◌, ◌-◌, ◌<◌, Bool, true, false, cond, List, length, map, reverse, ◌==◌, nat_le, nat_lt}
+-- The binders in scope, in a record whose outermost level is 0, and the sets of those that are
+-- used.
+use Rattle.std.specs.Prelude.{◌≡◌, ℕ, ◌+◌, ◌-◌, ◌<◌, ◌==◌, nat_le, nat_lt}
+use Rattle.std.specs.Prelude.{Bool, true, false, cond, List, length, map, reverse}
 use Rattle.std.specs.Int.{bit_at}
+use Rattle.calculus.specs.Alphabet.{op_variable, op_function, op_let}
 use Rattle.calculus.specs.Terms.{Var, bound, held, Term}
 use Rattle.calculus.specs.Types.{Ty}
 use Rattle.checker.specs.declared.scope.Scope.{Scope}
@@ -32,10 +35,11 @@ UsesOf u d m = (i : ℕ) → i < d → has u (d - 1 - i) ≡ uses m (bound i)
 
 -- how many binders the letter of a cell puts in scope: one for l, two for d
 abbrev pub binders_of : ℕ → ℕ
-binders_of op = cond (op == 108) 1 (cond (op == 100) 2 0)
+binders_of op = cond (op == op_function) 1 (cond (op == op_let) 2 0)
 
--- the tests of a cell that need only the number of binders in scope: not too many, and a variable's binder is one of them
+-- the tests of a cell that need only the number of binders in scope: there are not too many, and a
+-- variable's binder is one of them
 abbrev pub depth_tested : ℕ → ℕ → ℕ → ℕ → Verdict
 depth_tested at op argument depth =
     must (nat_le (depth + binders_of op) 32) (fault TooDeep at)
-    (must (cond (op == 118) (nat_lt argument depth) true) (fault NoBinder at) accepted)
+    (must (cond (op == op_variable) (nat_lt argument depth) true) (fault NoBinder at) accepted)

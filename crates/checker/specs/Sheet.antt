@@ -2,6 +2,7 @@
 -- and the order in which they are tried.
 use Rattle.std.specs.Prelude.{◌≡◌, ℕ, ◌<◌, ◌≤◌, ◌↔◌, false, List, [], ◌∷◌, ◌++◌, length, Some}
 use Rattle.std.specs.List.{flat_map, slice_get}
+use Rattle.calculus.specs.declared.limits.TheConstants.{MOST_TYPE_CELLS, MOST_TERM_CELLS}
 use Rattle.calculus.specs.Cells.{type_cells, placed_cells}
 use Rattle.calculus.specs.Terms.{Term, size}
 use Rattle.calculus.specs.Types.{Ty}
@@ -13,7 +14,8 @@ use Rattle.verdict.specs.Faults.{Verdict, number_of, fault}
 use Rattle.verdict.specs.Sheet.{Spot, HoldsFrom, Before, fault_at, Answers}
 use Rattle.verdict.specs.declared.faults.CheckFault.{CheckFault}
 use Rattle.verdict.specs.declared.faults.CheckReason.{CheckReason}
-use Rattle.verdict.specs.declared.faults.CheckReason.TheVariants.{TooManyCells, BadCell, NotWhole, ClaimOutside}
+use Rattle.verdict.specs.declared.faults.CheckReason.TheVariants.{TooManyCells, BadCell}
+use Rattle.verdict.specs.declared.faults.CheckReason.TheVariants.{NotWhole, ClaimOutside}
 
 pub data Table : Type 0 where
   type_table term_table : Table
@@ -26,8 +28,10 @@ pub data Place : Type 0 where
 -- The row of this reason holds for a table, at this cell.
 pub data TableRow (types : List TypeCell) (terms : List TermCell) : CheckReason → Table → ℕ
     → Type 0 where
-  too_many_types : 256 < length types → TableRow types terms TooManyCells type_table 256
-  too_many_terms : 512 < length terms → TableRow types terms TooManyCells term_table 512
+  too_many_types : MOST_TYPE_CELLS < length types
+      → TableRow types terms TooManyCells type_table MOST_TYPE_CELLS
+  too_many_terms : MOST_TERM_CELLS < length terms
+      → TableRow types terms TooManyCells term_table MOST_TERM_CELLS
   no_kind : {k : ℕ} (c : TypeCell) → slice_get types k ≡ Some c → known_kind c ≡ false
       → TableRow types terms BadCell type_table k
   not_storable : {k : ℕ} (c : TermCell) → slice_get terms k ≡ Some c → storable c ≡ false

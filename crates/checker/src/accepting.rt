@@ -48,7 +48,8 @@ pub fn check<'a>(types: &'a [TypeCell], terms: &'a [TermCell]) -> Result<Accepte
     Ok(Accepted { types, terms })
 }
 
-/// Two tables are accepted just where they store a term that has a derivation with its claims, within the limits.
+/// Two tables are accepted just where they store a term that has a derivation with its claims,
+/// within the limits.
 pub fn checking_is_exact()
     ensures { CheckingIsExact }
 {}

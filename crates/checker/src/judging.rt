@@ -33,8 +33,10 @@ fn judge_under<'a>(
     scope: &mut Scope<'a>,
 ) -> Result<Used, CheckFault>
     requires { depth scope.old + length binders.now ≤ 32 }
-    ensures verdict { verdict_of result ≡ verdict_from node.entry.at (with_binders binders.now (in_scope scope.old)) (term_of node.entry) }
-    ensures used { IfOk result (λ u. UsesOf u (depth scope.old + length binders.now) (term_of node.entry)) }
+    ensures verdict { verdict_of result ≡ verdict_from node.entry.at
+        (with_binders binders.now (in_scope scope.old)) (term_of node.entry) }
+    ensures used { IfOk result
+        (λ u. UsesOf u (depth scope.old + length binders.now) (term_of node.entry)) }
     ensures kept { scope.new ≡ scope.old }
 {
     let before = scope.binders.len();
@@ -43,10 +45,12 @@ fn judge_under<'a>(
     judge(node, &mut *entered.scope)
 }
 
-/// The binders that a term uses, or its first fault: of a cell, then of its parts in order, then on leaving it.
+/// The binders that a term uses, or its first fault: of a cell, then of its parts in order, then on
+/// leaving it.
 #[cycle(judge_judge_under)]
 pub(crate) fn judge<'a>(node: Node<'a>, scope: &mut Scope<'a>) -> Result<Used, CheckFault>
-    ensures verdict { verdict_of result ≡ verdict_from node.entry.at (in_scope scope.old) (term_of node.entry) }
+    ensures verdict { verdict_of result
+        ≡ verdict_from node.entry.at (in_scope scope.old) (term_of node.entry) }
     ensures used { IfOk result (λ u. UsesOf u (depth scope.old) (term_of node.entry)) }
     ensures kept { scope.new ≡ scope.old }
 {

@@ -16,7 +16,8 @@ pub(crate) fn apart(
     right: Used,
     at: usize,
 ) -> Result<Used, CheckFault>
-    ensures verdict { verdict_of result ≡ apart at (in_scope scope.now) (used_below left (depth scope.now)) (used_below right (depth scope.now)) }
+    ensures verdict { verdict_of result ≡ apart at (in_scope scope.now)
+        (used_below left (depth scope.now)) (used_below right (depth scope.now)) }
     ensures used { IfOk result (λ u. (k : ℕ) → has u k ≡ (has left k || has right k)) }
 {
     CheckReason::UsedTwice.refuse_if(!is_clear(scope, left.shared(right)), at)?;
@@ -30,7 +31,8 @@ pub(crate) fn uncaptured(
     marks: usize,
     at: usize,
 ) -> Result<Used, CheckFault>
-    ensures verdict { verdict_of result ≡ uncaptured at (in_scope scope.now) marks (used_below used (depth scope.now)) }
+    ensures verdict { verdict_of result
+        ≡ uncaptured at (in_scope scope.now) marks (used_below used (depth scope.now)) }
     ensures used { IfOk result (λ u. u ≡ used) }
 {
     CheckReason::Captures.refuse_if(marks > 0 && !is_clear(scope, used), at)?;

@@ -1,4 +1,5 @@
-//! A program as it is checked: both tables, where each tree of the term ends, and the nodes of the term.
+//! A program as it is checked: both tables, where each tree of the term ends, and the nodes of the
+//! term.
 
 ghost use Rattle.std.specs.Prelude.{◌≡◌, ◌+◌, ◌<◌, ◌≤◌, length, drop};
 ghost use Rattle.calculus.specs.Letters.{arity};
@@ -11,7 +12,8 @@ use calculus::{MOST_TERM_CELLS, TermCell, TypeCell};
 use subtyping::TypeAt;
 use trees::Cell;
 
-/// Both tables of a program that passed their tests, and one past the tree at each place of the term.
+/// Both tables of a program that passed their tests, and one past the tree at each place of the
+/// term.
 #[derive(Drop)]
 pub struct Program<'a> {
     types: &'a [TypeCell],
@@ -85,7 +87,11 @@ impl<'a> Node<'a> {
 
 // One past so many trees from `at` on, by the ends of the trees there.
 fn past_trees(ends: &[u16], terms: &[TermCell], at: usize, trees: usize) -> usize
-    requires { (TermsStand terms.now) × ((at ≤ length terms.now) × ((length terms.now ≤ length ends.now) × ((EndsFrom at terms.now ends.now) × (trees ≤ height arity (drop at terms.now))))) }
+    requires { (TermsStand terms.now)
+        × ((at ≤ length terms.now)
+        × ((length terms.now ≤ length ends.now)
+        × ((EndsFrom at terms.now ends.now)
+        × (trees ≤ height arity (drop at terms.now))))) }
     ensures end { result ≡ trees_end terms.now at trees }
     ensures within { (at ≤ result) × (result ≤ length terms.now) }
 {
@@ -98,7 +104,7 @@ fn past_trees(ends: &[u16], terms: &[TermCell], at: usize, trees: usize) -> usiz
 
 // One past the tree at each place, found from the last place to the first.
 fn tree_ends(terms: &[TermCell]) -> [u16; MOST_TERM_CELLS]
-    requires { (TermsStand terms.now) × (length terms.now ≤ 512) }
+    requires { (TermsStand terms.now) × (length terms.now ≤ MOST_TERM_CELLS) }
     ensures { EndsFrom 0 terms.now result }
 {
     let mut ends = [0; MOST_TERM_CELLS];

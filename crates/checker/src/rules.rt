@@ -8,7 +8,8 @@ ghost use Rattle.checker.specs.Judging.{term_of};
 ghost use Rattle.checker.specs.Rules.{constant_of, own_fits, own_type};
 ghost use Rattle.checker.specs.Scoping.{in_scope};
 ghost use Rattle.subtyping.specs.Meaning.{meant};
-ghost use Rattle.verdict.specs.Claims.{application_fits, claims_fit, condition_fits, function_fits, let_fits, pair_fits, unit_fits, variable_fits};
+ghost use Rattle.verdict.specs.Claims.{application_fits, claims_fit, condition_fits, function_fits};
+ghost use Rattle.verdict.specs.Claims.{let_fits, pair_fits, unit_fits, variable_fits};
 
 use crate::program::Node;
 use crate::scope::Scope;
@@ -25,7 +26,8 @@ const ARROW: TypeCell = TypeCell { kind: '>' };
 
 const PAIR: TypeCell = TypeCell { kind: '*' };
 
-// The own types of the constants: of bits, of `n`, of `m`, and of gates on one, two and three qubits.
+// The own types of the constants: of bits, of `n`, of `m`, and of gates on one, two and three
+// qubits.
 static BIT_TYPE: [TypeCell; 2] = [MARK, BIT];
 
 static NEW_TYPE: [TypeCell; 4] = [MARK, ARROW, BIT, QUBIT];
@@ -92,7 +94,8 @@ fn function_fits(claim: TypeAt<'_>, body: TypeAt<'_>) -> bool
 
 // Whether the function claims exactly the arrow from the argument's claim to the claim.
 fn application_fits(claim: TypeAt<'_>, function: TypeAt<'_>, argument: TypeAt<'_>) -> bool
-    ensures { result ≡ application_fits (meant claim.entry) (meant function.entry) (meant argument.entry) }
+    ensures { result
+        ≡ application_fits (meant claim.entry) (meant function.entry) (meant argument.entry) }
 {
     matches!(
         function.take_apart(),
@@ -100,7 +103,8 @@ fn application_fits(claim: TypeAt<'_>, function: TypeAt<'_>, argument: TypeAt<'_
     )
 }
 
-// Whether the claim is a pair after any marks, and the parts claim its parts, each after the same marks.
+// Whether the claim is a pair after any marks, and the parts claim its parts, each after the same
+// marks.
 fn pair_fits(claim: TypeAt<'_>, left: TypeAt<'_>, right: TypeAt<'_>) -> bool
     ensures { result ≡ pair_fits (meant claim.entry) (meant left.entry) (meant right.entry) }
 {
@@ -117,7 +121,8 @@ fn condition_fits(
     one: TypeAt<'_>,
     zero: TypeAt<'_>,
 ) -> bool
-    ensures { result ≡ condition_fits (meant claim.entry) (meant condition.entry) (meant one.entry) (meant zero.entry) }
+    ensures { result ≡ condition_fits (meant claim.entry)
+        (meant condition.entry) (meant one.entry) (meant zero.entry) }
 {
     condition.kind() == 'b' && one.is_same(claim) && zero.is_same(claim)
 }

@@ -1,4 +1,5 @@
-//! The record of binders in scope, the tests of its depth and of what is duplicable in it, and the guard that leaves binders.
+//! The record of binders in scope, the tests of its depth and of what is duplicable in it, and the
+//! guard that leaves binders.
 
 ghost use Rattle.std.specs.Prelude.{◌≡◌, ◌≤◌, [], take};
 ghost use Rattle.calculus.specs.Stripping.{duplicable};
@@ -37,7 +38,8 @@ pub struct Entered<'s, 'a> {
 
 impl Drop for Entered<'_, '_> {
     fn drop(self)
-        ensures { self.exit.0.now.binders.items ≡ take self.entry.before self.entry.scope.now.binders.items }
+        ensures { self.exit.0.now.binders.items
+            ≡ take self.entry.before self.entry.scope.now.binders.items }
     {
         let before = self.before;
         self.scope.binders.truncate(before);

@@ -31,7 +31,13 @@ qubit_changes = record {
 }
 
 abbrev pub qubit_meaning : OneQubit → Meaning Bool
-qubit_meaning s = record { capacity = 1; makes = qubit_makes; live = qubit_live s.live; pulses = s.pulses; content = s.bit }
+qubit_meaning s = record {
+  capacity = 1;
+  makes = qubit_makes;
+  live = qubit_live s.live;
+  pulses = s.pulses;
+  content = s.bit;
+}
 
 -- with room for a qubit, the one qubit is not live
 room_free : (live : Bool) → counted (qubit_live live) < 1 → live ≡ false

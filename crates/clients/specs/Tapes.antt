@@ -1,5 +1,7 @@
--- A qubit that is prepared and read on a new tape: the answer, and what the journal holds when the tape is gone.
-use Rattle.std.specs.Prelude.{ℕ, ◌%◌, min, Bool, cond, List, length, Ok, Err, Result, ◌==◌, slice_index, slice_set}
+-- A qubit that is prepared and read on a new tape: the answer, and what the journal holds when the
+-- tape is gone.
+use Rattle.std.specs.Prelude.{ℕ, ◌%◌, min, Bool, cond, List, length, Ok, Err, Result, ◌==◌}
+use Rattle.std.specs.Prelude.{slice_index, slice_set}
 use Rattle.registers.specs.declared.fault.RegisterReason.TheVariants.{NoPulses}
 use Rattle.registers.specs.declared.fault.RegisterFault.{RegisterFault}
 use Rattle.registers.specs.declared.journal.Entry.{Entry}

@@ -18,8 +18,8 @@ pub fn prepare_and_read_on_level(level: &mut Level, bit: bool) -> Result<bool, R
     prepare_and_read(level, bit)
 }
 
-/// Prepares a qubit at the bit on a new tape over the journal, and reads it. The tape is gone when this returns, and
-/// the journal holds what its pulses wrote.
+/// Prepares a qubit at the bit on a new tape over the journal, and reads it. The tape is gone when
+/// this returns, and the journal holds what its pulses wrote.
 pub fn prepare_and_read_on_tape(
     outcomes: &[u8],
     journal: &mut [Entry],

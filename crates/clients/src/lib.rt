@@ -1,4 +1,5 @@
-//! Code on both sides of the trait `Register`: a function that works at every register, and a register of one qubit.
+//! Code on both sides of the trait `Register`: a function that works at every register, and a
+//! register of one qubit.
 #![tactic(auto)]
 
 mod kinds;

@@ -22,11 +22,15 @@ module _ {R : Type 0} (kind : Ghosts R) where
 
   -- a call, of which it is said whether it is refused
   abbrev pub CallKeeps : Member → Controller R kind → Controller R kind → Bool → Type 0
-  CallKeeps x c c' refused = KeptBy kind.changes kind.meaning x c.shot c.register c'.shot c'.register refused
+  CallKeeps x c c' refused =
+      KeptBy kind.changes kind.meaning x c.shot c.register c'.shot c'.register refused
 
   -- a load of a program's tables
-  abbrev pub LoadKeeps : List TypeCell → List TermCell → Controller R kind → Controller R kind → Bool → Type 0
-  LoadKeeps types terms c c' refused = LoadKeptBy kind.changes kind.meaning types terms c.shot c.register c'.shot c'.register refused
+  abbrev pub LoadKeeps : List TypeCell → List TermCell
+      → Controller R kind → Controller R kind → Bool → Type 0
+  LoadKeeps types terms c c' refused =
+      LoadKeptBy kind.changes kind.meaning types terms
+      c.shot c.register c'.shot c'.register refused
 
   -- Wherever the controller is at a place of a row: the number of the call's refusal is the lowest
   -- whose row holds for the member, and no row holds where the call is not refused.

@@ -1,5 +1,6 @@
 -- The steps of a row since its last load.
 use Rattle.std.specs.Prelude.{ℕ, ◌+◌, min}
+use Rattle.controller.specs.Stepping.{most_steps}
 use Rattle.registers.specs.Meaning.{Changes}
 use Rattle.rows.specs.Members.{Member}
 use Rattle.rows.specs.Places.{Place}
@@ -8,7 +9,7 @@ use Rattle.rows.specs.Rows.{Reached, at_start, then_does}
 
 -- a count of steps after so many more, which stops at its last number
 abbrev pub later : ℕ → ℕ → ℕ
-later made more = min (made + more) 18446744073709551615
+later made more = min (made + more) most_steps
 
 module _ {C : Type 0} {changes : Changes C} where
   -- the count of the steps since the load after a member, by what it does

@@ -1,8 +1,13 @@
 -- The numbers of the controller's faults, and when a step may begin.
 use Rattle.std.specs.Prelude.{ℕ, cond, Some, None, Ok, Err, Option, Result, ◌==◌, nat_lt}
+use Rattle.calculus.specs.declared.limits.TheConstants.{MOST_RUNNING_CELLS}
 use Rattle.registers.specs.Answers.{number_of}
 use Rattle.controller.specs.declared.faults.ControllerFault.{ControllerFault}
-use Rattle.controller.specs.declared.faults.ControllerFault.TheVariants.{NothingLoaded, AlreadyLoaded, GateNotMade, ShortTable, AtValue, NoRule, TooLong, NoValue, ShortTables, Register}
+use Rattle.controller.specs.declared.faults.ControllerFault.TheVariants.{NothingLoaded}
+use Rattle.controller.specs.declared.faults.ControllerFault.TheVariants.{AlreadyLoaded, GateNotMade}
+use Rattle.controller.specs.declared.faults.ControllerFault.TheVariants.{ShortTable, AtValue}
+use Rattle.controller.specs.declared.faults.ControllerFault.TheVariants.{NoRule, TooLong, NoValue}
+use Rattle.controller.specs.declared.faults.ControllerFault.TheVariants.{ShortTables, Register}
 use Rattle.controller.specs.declared.faults.Refusal.{Refusal}
 
 abbrev pub fault_number : ControllerFault → ℕ
@@ -19,7 +24,9 @@ fault_number (Register f) = number_of f.reason
 
 -- of a running term of so many cells, none where nothing is loaded, and a work table of so many
 abbrev pub ready_answer : ℕ → ℕ → Result (Unit {0}) ControllerFault
-ready_answer running work = cond (running == 0) (Err NothingLoaded) (cond (nat_lt work 1024) (Err ShortTable) (Ok tt))
+ready_answer running work =
+    cond (running == 0) (Err NothingLoaded)
+    (cond (nat_lt work MOST_RUNNING_CELLS) (Err ShortTable) (Ok tt))
 
 -- a refused call, with its place
 abbrev pub refused : {A : Type 0} → ControllerFault → ℕ → Result A Refusal

@@ -31,8 +31,8 @@ Stands h (Some (m, a)) = Holds h m a
 abbrev pub place : {C : Type 0} → Option (Running × Ty) → Meaning C → Place C
 place loaded register = record { loaded = loaded; register = register }
 
--- The invariant: what is held and what the register means are a place that some row leads to from a new controller, and the steps
--- that are held are those of the row since its last load.
+-- The invariant: what is held and what the register means are a place that some row leads to from a
+-- new controller. The steps that are held are those of the row since its last load.
 pub record Kept {C : Type 0} (changes : Changes C) (h : Held) (r : Meaning C) : Type 0 where
   pub loaded : Option (Running × Ty)
   pub stands : Stands h loaded
@@ -41,21 +41,29 @@ pub record Kept {C : Type 0} (changes : Changes C) (h : Held) (r : Meaning C) : 
   pub reached : Reached changes start (place loaded r)
   pub counts : h.steps ≡ steps_since_load reached
 
-abbrev pub place_of : {C : Type 0} {changes : Changes C} {h : Held} {r : Meaning C} → Kept changes h r → Place C
+abbrev pub place_of : {C : Type 0} {changes : Changes C} {h : Held} {r : Meaning C}
+    → Kept changes h r → Place C
 place_of {r = r} k = place k.loaded r
 
--- A call keeps the invariant: it leads from place to place as the member of a row does, and is refused exactly where the member is.
-pub record Keeps {C : Type 0} (changes : Changes C) (x : Member) (h : Held) (r : Meaning C) (h' : Held) (r' : Meaning C) (refused : Bool) (k : Kept changes h r) : Type 0 where
+-- A call keeps the invariant. It leads from place to place as the member of a row does, and is
+-- refused exactly where the member is.
+pub record Keeps {C : Type 0} (changes : Changes C) (x : Member) (h : Held) (r : Meaning C)
+    (h' : Held) (r' : Meaning C) (refused : Bool) (k : Kept changes h r) : Type 0 where
   pub after : Kept changes h' r'
   pub does : Does changes (place_of k) x (place_of after)
   pub refusal : (refused ≡ true) ↔ Refused (place_of k) x
 
--- The same of a controller's shot and register: wherever it is at a place of a row, the call is the row's next member.
-abbrev pub KeptBy : {R C : Type 0} → Changes C → (R → Meaning C) → Member → Shot → R → Shot → R → Bool → Type 0
+-- The same of a controller's shot and register. Wherever it is at a place of a row, the call is the
+-- row's next member.
+abbrev pub KeptBy : {R C : Type 0} → Changes C → (R → Meaning C) → Member
+    → Shot → R → Shot → R → Bool → Type 0
 KeptBy changes meaning x shot register shot' register' refused =
-    (k : Kept changes (held shot) (meaning register)) → Keeps changes x (held shot) (meaning register) (held shot') (meaning register') refused k
+    (k : Kept changes (held shot) (meaning register))
+    → Keeps changes x (held shot) (meaning register) (held shot') (meaning register') refused k
 
 -- The same of a load: its tables store the program that is loaded.
-abbrev pub LoadKeptBy : {R C : Type 0} → Changes C → (R → Meaning C) → List TypeCell → List TermCell → Shot → R → Shot → R → Bool → Type 0
+abbrev pub LoadKeptBy : {R C : Type 0} → Changes C → (R → Meaning C)
+    → List TypeCell → List TermCell → Shot → R → Shot → R → Bool → Type 0
 LoadKeptBy changes meaning types terms shot register shot' register' refused =
-    (x : Program) × (x.term ≡ term_meant types terms 0) × KeptBy changes meaning (load x) shot register shot' register' refused
+    (x : Program) × (x.term ≡ term_meant types terms 0)
+    × KeptBy changes meaning (load x) shot register shot' register' refused

@@ -1,5 +1,7 @@
 -- When a load is refused, and what it answers.
-use Rattle.std.specs.Prelude.{◌≡◌, ℕ, ◌⊎◌, Bool, true, false, cond, List, length, Some, None, Ok, Err, Option, Result, ◌==◌}
+use Rattle.std.specs.Prelude.{◌≡◌, ℕ, ◌⊎◌, Bool, true, false, cond, List, length, Some, None, Ok}
+use Rattle.std.specs.Prelude.{Err, Option, Result, ◌==◌}
+use Rattle.calculus.specs.Alphabet.{op_gate}
 use Rattle.trees.specs.Failing.{first_failing}
 use Rattle.calculus.specs.Gates.{gate_of}
 use Rattle.calculus.specs.Terms.{Term}
@@ -17,7 +19,7 @@ gate_made makes (Some g) = makes g
 
 -- the cell names no gate, or one that is made
 abbrev pub is_made : (Gate → Bool) → TermCell → Bool
-is_made makes c = cond (c.op == 103) (gate_made makes (gate_of c.argument)) true
+is_made makes c = cond (c.op == op_gate) (gate_made makes (gate_of c.argument)) true
 
 -- the first cell that names a gate which is not made
 abbrev pub first_unmade : (Gate → Bool) → List TermCell → Option ℕ
@@ -28,12 +30,15 @@ abbrev pub count_or_unmade : Option ℕ → ℕ → Result ℕ Refusal
 count_or_unmade None n = Ok n
 count_or_unmade (Some cell) n = refused GateNotMade cell
 
--- a load while something is loaded is refused; else one that names a gate not made, with its cell
+-- A load while something is loaded is refused. Else one that names a gate not made is refused, with
+-- its cell.
 abbrev pub load_answer : (Gate → Bool) → Held → List TermCell → Result ℕ Refusal
-load_answer makes h terms = cond (is_loaded h) (refused AlreadyLoaded h.steps) (count_or_unmade (first_unmade makes terms) (length terms))
+load_answer makes h terms =
+    cond (is_loaded h) (refused AlreadyLoaded h.steps)
+    (count_or_unmade (first_unmade makes terms) (length terms))
 
--- A load that is refused for a gate carries the first cell of the term, in tree order, that names one
--- not made, and any other refused load the steps.
+-- A load that is refused for a gate carries the first cell of the term, in tree order, that names
+-- one not made. Any other refused load carries the steps.
 abbrev pub LoadPlace : {C : Type 0} → (Gate → Bool) → Held → Term C → Result ℕ Refusal → Type 0
 LoadPlace makes h m (Ok n) = Unit {0}
 LoadPlace makes h m (Err f) =

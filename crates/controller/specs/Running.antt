@@ -1,4 +1,4 @@
--- A run: so many steps, one after the other, each with the answers of the register as it then is, and why it stops.
+-- A run: so many steps, each with the answers of the register as it then is, and why it stops.
 use Rattle.std.specs.Prelude.{◌≡◌, ℕ, suc, ◌<◌, ◌≤◌, true, false, List, length, Ok, Err, Result}
 use Rattle.calculus.specs.declared.cells.TermCell.{TermCell}
 use Rattle.finder.specs.Finding.{answer}
@@ -42,14 +42,19 @@ module _ {R : Type 0} (kind : Ghosts R) where
     none_made : Ran a 0 a
     one_more_made : {k : ℕ} {b c : Desk R} → Ran a k b → StepLeads b c → Ran a (suc k) c
 
-  -- A run with this budget stops here after so many steps: at a value, else at its budget, else at the step that is due, with
-  -- its fault.
+  -- A run with this budget stops here after so many steps: at a value, else at its budget, else at
+  -- the step that is due, with its fault.
   abbrev pub Stopped : ℕ → ℕ → Desk R → Stop → Type 0
   Stopped budget made b Value = is_value (answer b.shot.cells) ≡ true
   Stopped budget made b Budget = (is_value (answer b.shot.cells) ≡ false) × (made ≡ budget)
-  Stopped budget made b (Refused fault steps) = (is_value (answer b.shot.cells) ≡ false) × (made < budget) × (due b ≡ Err fault) × (steps ≡ b.shot.steps)
+  Stopped budget made b (Refused fault steps) =
+      (is_value (answer b.shot.cells) ≡ false) × (made < budget)
+      × (due b ≡ Err fault) × (steps ≡ b.shot.steps)
 
   -- what a call of run answers that leads from one desk to another
   abbrev pub RunAnswer : ℕ → Desk R → Desk R → Result (ℕ × Stop) Refusal → Type 0
-  RunAnswer budget a b (Ok (made, stop)) = (ready_answer (length a.shot.cells) (length a.work) ≡ Ok tt) × (made ≤ budget) × Ran a made b × Stopped budget made b stop
-  RunAnswer budget a b (Err f) = placed a.shot.steps (ready_answer (length a.shot.cells) (length a.work)) ≡ Err f
+  RunAnswer budget a b (Ok (made, stop)) =
+      (ready_answer (length a.shot.cells) (length a.work) ≡ Ok tt) × (made ≤ budget)
+      × Ran a made b × Stopped budget made b stop
+  RunAnswer budget a b (Err f) =
+      placed a.shot.steps (ready_answer (length a.shot.cells) (length a.work)) ≡ Err f

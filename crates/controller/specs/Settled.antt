@@ -32,16 +32,21 @@ module _ {C : Type 0} (changes : Changes C) (tells : Meaning C → Told C) where
   abbrev pub step_due : Standing C → Result (Made C) ControllerFault
   step_due a = stepped changes (tells a.register) a.shot.cells
 
-  abbrev pub goes_on : (Standing C → Ended C) → Standing C → Result (Made C) ControllerFault → Ended C
+  -- the rest of a run, after the step that is due
+  abbrev pub goes_on : (Standing C → Ended C) → Standing C → Result (Made C) ControllerFault
+      → Ended C
   goes_on rest a (Ok t) = after 1 (rest (after_step changes a t))
   goes_on rest a (Err f) = ended (Refused f a.shot.steps) a
 
   -- a run with so many steps left
   unfoldable pub run_from : ℕ → Standing C → Ended C
   run_from zero a = cond (is_value (answer a.shot.cells)) (ended Value a) (ended Budget a)
-  run_from (suc left) a = cond (is_value (answer a.shot.cells)) (ended Value a) (goes_on (run_from left) a (step_due a))
+  run_from (suc left) a =
+      cond (is_value (answer a.shot.cells)) (ended Value a)
+      (goes_on (run_from left) a (step_due a))
 
-  abbrev pub run_if_ready : ℕ → Standing C → Result (Unit {0}) ControllerFault → Result (ℕ × Stop) Refusal × Standing C
+  abbrev pub run_if_ready : ℕ → Standing C → Result (Unit {0}) ControllerFault
+      → Result (ℕ × Stop) Refusal × Standing C
   run_if_ready budget a (Ok u) = let e = run_from budget a in (Ok (e.made, e.stop), e.last)
   run_if_ready budget a (Err f) = (refused f a.shot.steps, a)
 
@@ -50,5 +55,8 @@ module _ {C : Type 0} (changes : Changes C) (tells : Meaning C → Told C) where
   run_of budget a = run_if_ready budget a (ready_answer (length a.shot.cells) (length a.work))
 
 -- On a settled kind a call of run that leads from one standing to another comes to this.
-abbrev pub RunIsSettled : {R : Type 0} (kind : Ghosts R) → ℕ → Standing kind.Content → Standing kind.Content → Result (ℕ × Stop) Refusal → Type 0
-RunIsSettled kind budget a b result = (tells : Meaning kind.Content → Told kind.Content) → SettledBy kind tells → (result, b) ≡ run_of kind.changes tells budget a
+abbrev pub RunIsSettled : {R : Type 0} (kind : Ghosts R) → ℕ
+    → Standing kind.Content → Standing kind.Content → Result (ℕ × Stop) Refusal → Type 0
+RunIsSettled kind budget a b result =
+    (tells : Meaning kind.Content → Told kind.Content) → SettledBy kind tells
+    → (result, b) ≡ run_of kind.changes tells budget a

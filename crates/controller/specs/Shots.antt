@@ -6,11 +6,11 @@ use Rattle.calculus.specs.Cells.{type_cells, cell_of, unclaimed}
 use Rattle.calculus.specs.Reading.{type_at}
 use Rattle.controller.specs.declared.shot.Shot.{Shot}
 
--- The cells of the running term, none where nothing is loaded, those of the loaded type, and the steps made since the load.
+-- What a shot holds. Where nothing is loaded there are no cells.
 pub record Held : Type 0 where
-  pub cells : List TermCell
-  pub kinds : List TypeCell
-  pub steps : ℕ
+  pub cells : List TermCell  -- of the running term
+  pub kinds : List TypeCell  -- of its loaded type
+  pub steps : ℕ  -- how many were made since the load
 
 abbrev pub held : Shot → Held
 held s = record { cells = s.cells.items; kinds = s.kinds.items; steps = s.steps }
@@ -35,4 +35,5 @@ root_cells types terms = type_cells (type_at types (root_claim terms))
 
 -- a program as it is loaded: its term, which claims nothing as it runs, and its root's type
 abbrev pub program_held : List TypeCell → List TermCell → Held
-program_held types terms = record { cells = unclaimed terms; kinds = root_cells types terms; steps = 0 }
+program_held types terms =
+    record { cells = unclaimed terms; kinds = root_cells types terms; steps = 0 }

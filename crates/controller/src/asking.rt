@@ -93,9 +93,11 @@ impl<'a> Redex<'a> {
     }
 }
 
-// Lets go of a qubit that was named before and is not after; one that is not live stays as it is.
+// Lets go of a qubit that was named before and is not after. One that is not live stays as it is.
 fn let_go_if_unnamed<R: Register>(register: &mut R, before: bool, after: bool, handle: u8)
-    ensures { R.Register.meaning register.new ≡ cond (before && not after) (released R.Register.changes (R.Register.meaning register.old) handle) (R.Register.meaning register.old) }
+    ensures { R.Register.meaning register.new ≡ cond (before && not after)
+        (released R.Register.changes (R.Register.meaning register.old) handle)
+        (R.Register.meaning register.old) }
 {
     if before && !after {
         let _ = register.let_go(handle);
@@ -109,7 +111,8 @@ pub fn let_go_unnamed<R: Register>(
     after: &[bool; HANDLES],
 )
     ensures { R.Register.meaning register.new ≡ released_all R.Register.changes
-        (dropped (λ h. slice_index_or before.now h false) (λ h. slice_index_or after.now h false)) (R.Register.meaning register.old) }
+        (dropped (λ h. slice_index_or before.now h false) (λ h. slice_index_or after.now h false))
+        (R.Register.meaning register.old) }
 {
     for (handle, (was_named, is_named)) in before.iter().zip(after).enumerate() {
         let_go_if_unnamed(register, *was_named, *is_named, handle as u8);

@@ -23,8 +23,8 @@ impl<R: Register> Controller<R> {
     ghost use Rattle.rows.specs.Members.{step, run, collect, abandon};
     ghost use Rattle.registers.specs.Meaning.{after_clear};
     ghost use Rattle.registers.specs.Telling.{told};
-    ghost use Rattle.controller.specs.Calls.{IsKept, CallKeeps, LoadKeeps};
-    ghost use Rattle.controller.specs.Calls.{CallAnswers, LoadAnswers, LoadCarries, StopAnswers};
+    ghost use Rattle.controller.specs.Calls.{IsKept, CallKeeps, LoadKeeps, CallAnswers};
+    ghost use Rattle.controller.specs.Calls.{LoadAnswers, LoadCarries, StopAnswers};
     ghost use Rattle.controller.specs.Loading.{load_answer};
     ghost use Rattle.controller.specs.Meant.{standing};
     ghost use Rattle.controller.specs.Running.{RunAnswer, desk};
@@ -69,7 +69,8 @@ impl<R: Register> Controller<R> {
         self.shot.load(&self.register, program)
     }
 
-    /// Makes one step, after which the work table starts with the next term; answers its cell count.
+    /// Makes one step and answers the cell count of the next term. The work table then starts with
+    /// it.
     pub fn step(&mut self, work: &mut [TermCell]) -> Result<usize, Refusal>
         ensures answer { result ≡ placed (held self.old.shot).steps (count_made
             (step_made R.Register.changes (told R.Register self.old.register)
@@ -87,7 +88,8 @@ impl<R: Register> Controller<R> {
         self.shot.step(&mut self.register, work)
     }
 
-    /// Makes steps until the running term is a value, the budget is spent or a step is refused; answers those made, and why it stopped.
+    /// Makes steps until the running term is a value, the budget is spent or a step is refused.
+    /// Answers how many were made, and why it stopped.
     pub fn run(&mut self, budget: u64, work: &mut [TermCell]) -> Result<(u64, Stop), Refusal>
         ensures answer { RunAnswer R.Register budget
             (desk self.old.shot self.old.register work.old)
@@ -104,7 +106,8 @@ impl<R: Register> Controller<R> {
         self.shot.run(&mut self.register, budget, work)
     }
 
-    /// Writes the value and its type at the front of two tables, clears the register and unloads; answers both counts.
+    /// Writes the value and its type at the front of two tables, clears the register and unloads.
+    /// Answers both counts.
     pub fn collect(
         &mut self,
         value: &mut [TermCell],

@@ -21,19 +21,22 @@ impl Shot {
         self.unload();
     }
 
-    /// Writes the value and its type at the front of two tables, clears the register and unloads; answers both counts.
+    /// Writes the value and its type at the front of two tables, clears the register and unloads.
+    /// Answers both counts.
     pub fn collect<R: Register>(
         &mut self,
         register: &mut R,
         value: &mut [TermCell],
         kinds: &mut [TypeCell],
     ) -> Result<(usize, usize), Refusal>
-        ensures answer { result ≡ collect_answer (held self.old) (length value.old) (length kinds.old) }
+        ensures answer { result
+            ≡ collect_answer (held self.old) (length value.old) (length kinds.old) }
         ensures state { MatchResult result
             (λ _. Ends R.Register self.new register.old register.new)
             (λ _. (self.new ≡ self.old) × (register.new ≡ register.old)) }
         ensures tables { MatchResult result
-            (λ _. (value.new ≡ begun_with (held self.old).cells value.old) × (kinds.new ≡ begun_with (held self.old).kinds kinds.old))
+            (λ _. (value.new ≡ begun_with (held self.old).cells value.old)
+            × (kinds.new ≡ begun_with (held self.old).kinds kinds.old))
             (λ _. (value.new ≡ value.old) × (kinds.new ≡ kinds.old)) }
     {
         self.refuse_if(ControllerFault::NothingLoaded, self.cells.is_empty())?;

@@ -1,7 +1,7 @@
 //! Why a call is refused, and why a run stops.
 
 ghost use Rattle.std.specs.Prelude.{◌≡◌, if◌then◌else◌};
-ghost use Rattle.controller.specs.declared.faults.ControllerFault.TheVariants.{NoRule, Register as ofRegister};
+ghost use Rattle.controller.specs.declared.faults.ControllerFault.TheVariants.{NoRule, Register};
 ghost use Rattle.controller.specs.Faults.{fault_number};
 
 use finder::FindFault;
@@ -64,7 +64,7 @@ impl ControllerFault {
 }
 
 impl From<RegisterFault> for ControllerFault {
-    ghost from_gives = { λ f c. c ≡ ofRegister f };
+    ghost from_gives = { λ f c. c ≡ Register f };
 
     fn from(fault: RegisterFault) -> ControllerFault {
         ControllerFault::Register(fault)
@@ -79,7 +79,8 @@ impl From<FindFault> for ControllerFault {
     }
 }
 
-/// A refused call: its fault, and the steps made since the load or, for a gate not made, the cell that names it.
+/// A refused call: its fault and its place. The place is the steps made since the load or, for a
+/// gate not made, the cell that names it.
 #[derive(Clone, Copy, PartialEq, Eq, Debug, Drop)]
 pub struct Refusal {
     pub fault: ControllerFault,

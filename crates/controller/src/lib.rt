@@ -1,4 +1,5 @@
-//! The controller: a program is loaded, run a step at a time on a register, and its value collected.
+//! The controller: a program is loaded, run a step at a time on a register, and its value
+//! collected.
 #![tactic(auto)]
 
 mod asking;

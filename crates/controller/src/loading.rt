@@ -2,7 +2,8 @@
 
 ghost use Rattle.std.specs.Prelude.{◌≡◌, ◌≤◌, map, length, take, MatchResult};
 ghost use Rattle.controller.specs.Loading.{is_made, first_unmade, load_answer};
-ghost use Rattle.controller.specs.Shots.{claiming_nothing, held, nothing_held, program_held, root_cells, root_claim};
+ghost use Rattle.controller.specs.Shots.{claiming_nothing, held, nothing_held, program_held};
+ghost use Rattle.controller.specs.Shots.{root_cells, root_claim};
 
 use crate::faults::{ControllerFault, Refusal};
 use crate::shot::{Shot, refill};
@@ -37,11 +38,11 @@ fn root_claim(terms: &[TermCell]) -> usize
 // Copies the cells of the type that a program's root claims to the front of a table, and answers
 // their count.
 fn copy_root_type(program: &Accepted, table: &mut [TypeCell]) -> usize
-    requires { length table.old ≡ 256 }
+    requires { length table.old ≡ MOST_TYPE_CELLS }
     ensures cells { take result table.new
         ≡ root_cells program.now.types.now program.now.terms.now }
     ensures within { result ≤ length table.new }
-    ensures length { length table.new ≡ 256 }
+    ensures length { length table.new ≡ MOST_TYPE_CELLS }
 {
     copy(program.types(), root_claim(program.terms()), table).unwrap()
 }
@@ -54,10 +55,14 @@ fn first_unmade<R: Register>(register: &R, terms: &[TermCell]) -> Option<usize>
 }
 
 impl Shot {
-    /// Copies an accepted program's term, which claims nothing as it runs, and its root's type; answers the cell count.
+    /// Copies an accepted program's term, which claims nothing as it runs, and its root's type.
+    /// Answers the cell count.
     pub fn load<R: Register>(&mut self, register: &R, program: &Accepted) -> Result<usize, Refusal>
-        ensures answer { result ≡ load_answer (R.Register.meaning register.now).makes (held self.old) program.now.terms.now }
-        ensures state { MatchResult result (λ _. held self.new ≡ program_held program.now.types.now program.now.terms.now) (λ _. self.new ≡ self.old) }
+        ensures answer { result ≡ load_answer (R.Register.meaning register.now).makes
+            (held self.old) program.now.terms.now }
+        ensures state { MatchResult result
+            (λ _. held self.new ≡ program_held program.now.types.now program.now.terms.now)
+            (λ _. self.new ≡ self.old) }
     {
         self.refuse_if(ControllerFault::AlreadyLoaded, !self.cells.is_empty())?;
         let terms = program.terms();

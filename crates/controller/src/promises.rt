@@ -1,11 +1,13 @@
-//! What holds of every controller: the function does nothing, and its contract is the promise.
+//! What holds of every controller. The function stands for a theorem: its contract is the theorem's
+//! statement.
 
 ghost use Rattle.controller.specs.Sound.{EveryControllerIsSound};
 
 use registers::Register;
 
-/// Wherever a controller is, its place is sound: the live qubits are exactly those that the running term names, the term has its
-/// loaded type, and a step of what is no value is refused for want of cells, of a pulse or of room alone.
+/// Wherever a controller is, its place is sound. The live qubits are exactly those that the running
+/// term names. The term has its loaded type. A step of what is no value is refused for want of
+/// cells, of a pulse or of room alone.
 pub fn every_controller_is_sound<R: Register>()
     ensures { EveryControllerIsSound R.Register }
 {}

@@ -1,4 +1,5 @@
-//! What runs: a term in cells, its loaded type, and the steps made. Its calls, in `loading`, `steps` and `ending`, take the register as an argument.
+//! What runs: a term in cells, its loaded type, and the steps made. Its calls, in `loading`,
+//! `steps` and `ending`, take the register as an argument.
 
 ghost use Rattle.std.specs.Prelude.{◌≡◌, ◌≤◌, length, if◌then◌else◌, Ok};
 ghost use Rattle.controller.specs.Faults.{refused};
@@ -8,7 +9,8 @@ use crate::faults::{ControllerFault, Refusal};
 use arrayvec::ArrayVec;
 use calculus::{MOST_RUNNING_CELLS, MOST_TYPE_CELLS, TermCell, TypeCell};
 
-/// A running term, of no cells where nothing is loaded, with the cells of its type and the steps made since the load.
+/// The cells of a running term and of its type, and the steps made since the load. Where nothing is
+/// loaded there are no cells.
 #[derive(Default, Drop)]
 pub struct Shot {
     pub(crate) cells: ArrayVec<TermCell, MOST_RUNNING_CELLS>,

@@ -5,7 +5,8 @@ ghost use Rattle.registers.specs.Telling.{told};
 ghost use Rattle.controller.specs.Faults.{ready_answer};
 ghost use Rattle.controller.specs.Running.{RunAnswer, desk};
 ghost use Rattle.controller.specs.Shots.{held};
-ghost use Rattle.controller.specs.Stepping.{StepLeaves, advanced, taken, one_more, count_made, step_made, placed};
+ghost use Rattle.controller.specs.Stepping.{StepLeaves, advanced, taken, one_more, count_made};
+ghost use Rattle.controller.specs.Stepping.{step_made, placed};
 ghost use Rattle.controller.specs.Letting.{released_all};
 ghost use Rattle.controller.specs.Tables.{begun_with};
 ghost use Rattle.controller.specs.Unloading.{is_value};
@@ -35,7 +36,8 @@ fn write_next(
     answer: Answer,
     work: &mut [TermCell],
 ) -> usize
-    requires { (1024 ≤ length work.old) × (length (next_cells cells.now rule at answer) ≤ 1024) }
+    requires { (MOST_RUNNING_CELLS ≤ length work.old)
+        × (length (next_cells cells.now rule at answer) ≤ MOST_RUNNING_CELLS) }
     ensures count { result ≡ length (next_cells cells.now rule at answer) }
     ensures work { work.new ≡ begun_with (next_cells cells.now rule at answer) work.old }
     ensures fits { result ≤ length work.new }
@@ -55,15 +57,19 @@ impl Shot {
 
     // The running term becomes that of some cells, by one step more.
     fn replace(&mut self, cells: &[TermCell])
-        requires { length cells.now ≤ 1024 }
-        ensures { held self.new ≡ record { cells = cells.now; kinds = (held self.old).kinds; steps = one_more (held self.old).steps } }
+        requires { length cells.now ≤ MOST_RUNNING_CELLS }
+        ensures { held self.new ≡ record {
+          cells = cells.now;
+          kinds = (held self.old).kinds;
+          steps = one_more (held self.old).steps;
+        } }
     {
         refill(&mut self.cells, cells);
         self.steps = self.steps.saturating_add(1);
     }
 
-    // Goes on to the next term, with the register's answer: it is written to the work table and taken from there, and the qubits
-    // that it names no more are let go. Answers its cell count.
+    // Goes on to the next term, with the register's answer, and answers its cell count. The term is
+    // written to the work table and taken from there. The qubits that it names no more are let go.
     fn go_on<R: Register>(
         &mut self,
         register: &mut R,
@@ -72,12 +78,20 @@ impl Shot {
         answer: Answer,
         work: &mut [TermCell],
     ) -> usize
-        requires { (1024 ≤ length work.old) × (length (next_cells (held self.old).cells rule at answer) ≤ 1024) }
+        requires { (MOST_RUNNING_CELLS ≤ length work.old)
+            × (length (next_cells (held self.old).cells rule at answer) ≤ MOST_RUNNING_CELLS) }
         ensures count { result ≡ length (next_cells (held self.old).cells rule at answer) }
-        ensures shot { held self.new ≡ record { cells = next_cells (held self.old).cells rule at answer; kinds = (held self.old).kinds; steps = one_more (held self.old).steps } }
+        ensures shot { held self.new ≡ record {
+          cells = next_cells (held self.old).cells rule at answer;
+          kinds = (held self.old).kinds;
+          steps = one_more (held self.old).steps;
+        } }
         ensures register { R.Register.meaning register.new ≡ released_all R.Register.changes
-            (dropped (names (held self.old).cells) (names (next_cells (held self.old).cells rule at answer))) (R.Register.meaning register.old) }
-        ensures work { work.new ≡ begun_with (next_cells (held self.old).cells rule at answer) work.old }
+            (dropped (names (held self.old).cells)
+            (names (next_cells (held self.old).cells rule at answer)))
+            (R.Register.meaning register.old) }
+        ensures work { work.new
+            ≡ begun_with (next_cells (held self.old).cells rule at answer) work.old }
     {
         let before = named(&self.cells);
         let len = write_next(&self.cells, rule, at, answer, work);
@@ -87,7 +101,7 @@ impl Shot {
         len
     }
 
-    // Makes the step of a rule at a cell: the next term is counted before the register is asked.
+    // Makes the step of a rule at a cell. The next term is counted before the register is asked.
     fn advance<R: Register>(
         &mut self,
         register: &mut R,
@@ -95,9 +109,14 @@ impl Shot {
         at: usize,
         work: &mut [TermCell],
     ) -> Result<usize, ControllerFault>
-        requires { 1024 ≤ length work.old }
-        ensures answer { result ≡ count_made (advanced R.Register.changes (told R.Register register.old) (held self.old).cells rule at) }
-        ensures state { StepLeaves R.Register (advanced R.Register.changes (told R.Register register.old) (held self.old).cells rule at) self.old self.new register.old register.new work.old work.new }
+        requires { MOST_RUNNING_CELLS ≤ length work.old }
+        ensures answer { result ≡ count_made
+            (advanced R.Register.changes (told R.Register register.old)
+            (held self.old).cells rule at) }
+        ensures state { StepLeaves R.Register
+            (advanced R.Register.changes (told R.Register register.old)
+            (held self.old).cells rule at)
+            self.old self.new register.old register.new work.old work.new }
     {
         ControllerFault::NoRule.refuse_if(at >= self.cells.len())?;
         next(&self.cells, rule, at, Answer::Nothing, &mut []).ok_or(ControllerFault::TooLong)?;
@@ -115,22 +134,31 @@ impl Shot {
         found: Result<Option<(Rule, usize)>, FindFault>,
         work: &mut [TermCell],
     ) -> Result<usize, ControllerFault>
-        requires { 1024 ≤ length work.old }
-        ensures answer { result ≡ count_made (taken R.Register.changes (told R.Register register.old) (held self.old).cells found) }
-        ensures state { StepLeaves R.Register (taken R.Register.changes (told R.Register register.old) (held self.old).cells found) self.old self.new register.old register.new work.old work.new }
+        requires { MOST_RUNNING_CELLS ≤ length work.old }
+        ensures answer { result ≡ count_made
+            (taken R.Register.changes (told R.Register register.old) (held self.old).cells found) }
+        ensures state { StepLeaves R.Register
+            (taken R.Register.changes (told R.Register register.old) (held self.old).cells found)
+            self.old self.new register.old register.new work.old work.new }
     {
         let (rule, at) = found?.ok_or(ControllerFault::AtValue)?;
         self.advance(register, rule, at, work)
     }
 
-    /// Makes one step, after which the work table starts with the next term; answers its cell count.
+    /// Makes one step and answers the cell count of the next term. The work table then starts with
+    /// it.
     pub fn step<R: Register>(
         &mut self,
         register: &mut R,
         work: &mut [TermCell],
     ) -> Result<usize, Refusal>
-        ensures answer { result ≡ placed (held self.old).steps (count_made (step_made R.Register.changes (told R.Register register.old) (held self.old) (length work.old))) }
-        ensures state { StepLeaves R.Register (step_made R.Register.changes (told R.Register register.old) (held self.old) (length work.old)) self.old self.new register.old register.new work.old work.new }
+        ensures answer { result ≡ placed (held self.old).steps (count_made
+            (step_made R.Register.changes (told R.Register register.old)
+            (held self.old) (length work.old))) }
+        ensures state { StepLeaves R.Register
+            (step_made R.Register.changes (told R.Register register.old)
+            (held self.old) (length work.old))
+            self.old self.new register.old register.new work.old work.new }
     {
         let steps = self.steps;
         self.ready(work).map_err(|fault| fault.at(steps))?;
@@ -139,7 +167,8 @@ impl Shot {
             .map_err(|fault| fault.at(steps))
     }
 
-    /// Makes steps until the running term is a value, the budget is spent or a step is refused; answers those made, and why it stopped.
+    /// Makes steps until the running term is a value, the budget is spent or a step is refused.
+    /// Answers how many were made, and why it stopped.
     pub fn run<R: Register>(
         &mut self,
         register: &mut R,
@@ -148,7 +177,8 @@ impl Shot {
     ) -> Result<(u64, Stop), Refusal>
         ensures answer { RunAnswer R.Register budget
             (desk self.old register.old work.old) (desk self.new register.new work.new) result }
-        ensures refused { OnErr result ((self.new ≡ self.old) × (register.new ≡ register.old) × (work.new ≡ work.old)) }
+        ensures refused { OnErr result
+            ((self.new ≡ self.old) × (register.new ≡ register.old) × (work.new ≡ work.old)) }
     {
         self.ready(work).map_err(|fault| fault.at(self.steps))?;
         let mut made = 0;

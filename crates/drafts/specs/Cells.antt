@@ -16,7 +16,11 @@ same_cell a b = nat_eq a.kind b.kind
 abbrev pub stands : List TypeCell → List TypeCell → ℕ → Bool
 stands code types p = starts_with same_cell (drop p types) code
 
--- The place that a type has: the first one where its cells stand already, or that behind the table, to which they are added.
+-- The place that a type has: the first one where its cells stand already, or that behind the table,
+-- to which they are added.
 pub data Placed (code types after : List TypeCell) (place : ℕ) : Type 0 where
-  found : (p : ℕ) → stands code types p ≡ true → ((k : ℕ) → k < p → stands code types k ≡ false) → after ≡ types → place ≡ min p 65535 → Placed code types after place
-  added : ((k : ℕ) → k < length types → stands code types k ≡ false) → after ≡ types ++ code → place ≡ min (length types) 65535 → Placed code types after place
+  found : (p : ℕ) → stands code types p ≡ true
+      → ((k : ℕ) → k < p → stands code types k ≡ false)
+      → after ≡ types → place ≡ min p 65535 → Placed code types after place
+  added : ((k : ℕ) → k < length types → stands code types k ≡ false)
+      → after ≡ types ++ code → place ≡ min (length types) 65535 → Placed code types after place

@@ -1,10 +1,13 @@
 -- The terms that programs at a limit are; each node claims a place of the type table.
-use Rattle.std.specs.Prelude.{ℕ, zero, suc, ◌-◌, ◌/◌, ◌%◌, true, false, List, [], ◌∷◌, ◌++◌, nat_eq, if◌then◌else◌}
+use Rattle.std.specs.Prelude.{ℕ, zero, suc, ◌-◌, ◌/◌, ◌%◌, nat_eq, true, false}
+use Rattle.std.specs.Prelude.{List, [], ◌∷◌, ◌++◌, if◌then◌else◌}
 use Rattle.std.specs.List.{flat_map}
+use Rattle.calculus.specs.Alphabet.{op_variable, op_function, op_application}
 use Rattle.calculus.specs.declared.cells.TypeCell.{TypeCell}
 use Rattle.calculus.specs.declared.cells.TermCell.{TermCell}
 use Rattle.calculus.specs.Types.{Ty, bit, bang, arrow, tensor}
-use Rattle.calculus.specs.Terms.{bit_of, bound, Term, var, const, lam, app, pair, if_then_else, let_pair}
+use Rattle.calculus.specs.Terms.{bit_of, bound}
+use Rattle.calculus.specs.Terms.{Term, var, const, lam, app, pair, if_then_else, let_pair}
 use Rattle.calculus.specs.Cells.{type_cells, cell_of}
 
 -- the cells of types, one after the other
@@ -13,7 +16,8 @@ table types = flat_map type_cells types
 
 -- the types that the programs share: b at 0, b>b at 1, b*b at 4, !(b>b) at 7, and !(b>b)>b at 11
 abbrev pub common_types : List Ty
-common_types = bit ∷ arrow bit bit ∷ tensor bit bit ∷ bang (arrow bit bit) ∷ arrow (bang (arrow bit bit)) bit ∷ []
+common_types = bit ∷ arrow bit bit ∷ tensor bit bit ∷ bang (arrow bit bit)
+    ∷ arrow (bang (arrow bit bit)) bit ∷ []
 
 -- these, and !(b>b)*b at 17
 abbrev pub pair_types : List Ty
@@ -38,7 +42,8 @@ right_bit = let_pair 0 (pair 4 zero_bit one_bit) (var 0 (bound 0))
 abbrev pub padded_bit : ℕ → Term ℕ
 padded_bit n =
     if nat_eq (n % 3) 1 then wrapped (n / 3) zero_bit
-    else (if nat_eq (n % 3) 2 then wrapped (n / 3 - 1) right_bit else wrapped (n / 3 - 4) (if_then_else 0 right_bit one_bit right_bit))
+    else (if nat_eq (n % 3) 2 then wrapped (n / 3 - 1) right_bit
+    else wrapped (n / 3 - 4) (if_then_else 0 right_bit one_bit right_bit))
 
 -- a bit through so many uses of the function that a variable is
 abbrev pub used : ℕ → ℕ → Term ℕ
@@ -52,8 +57,8 @@ padded_function n = lam 7 (padded_bit (n - 1))
 -- what is written before the term within: so many identities applied, and so many uses
 abbrev pub wraps : ℕ → List TermCell
 wraps zero = []
-wraps (suc n) = wraps n ++ (cell_of 97 0 0 ∷ cell_of 108 0 1 ∷ cell_of 118 0 0 ∷ [])
+wraps (suc n) = wraps n ++ (cell_of op_application 0 0 ∷ cell_of op_function 0 1 ∷ cell_of op_variable 0 0 ∷ [])
 
 abbrev pub calls : ℕ → ℕ → List TermCell
 calls i zero = []
-calls i (suc n) = calls i n ++ (cell_of 97 0 0 ∷ cell_of 118 i 1 ∷ [])
+calls i (suc n) = calls i n ++ (cell_of op_application 0 0 ∷ cell_of op_variable i 1 ∷ [])

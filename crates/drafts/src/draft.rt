@@ -96,7 +96,8 @@ impl Draft {
         Ok(())
     }
 
-    /// More term cells from a text: op, argument and claim of each, with a comma and a blank between cells.
+    /// More term cells from a text: op, argument and claim of each, with a comma and a blank
+    /// between cells.
     pub fn stored(&mut self, cells: &str) -> Result<(), AllocError>
         ensures { self.new.types ≡ self.old.types }
     {

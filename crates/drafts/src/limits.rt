@@ -3,9 +3,11 @@
 ghost use Rattle.std.specs.Prelude.{◌≡◌, [], ◌∷◌, ◌++◌, map, replicate, vec_len, IfOk, OnOk};
 ghost use Rattle.std.specs.Str.{chars};
 ghost use Rattle.calculus.specs.Types.{bangs, bit as bit_type};
-ghost use Rattle.calculus.specs.Cells.{kind_cell, type_cells as cells_of_type, cell_of, placed_cells};
+ghost use Rattle.calculus.specs.Cells.{kind_cell, cell_of, placed_cells};
+ghost use Rattle.calculus.specs.Cells.{type_cells as cells_of_type};
 ghost use Rattle.drafts.specs.Counts.{padded_count};
-ghost use Rattle.drafts.specs.Limits.{table, common_types, wraps, right_bit, padded_bit, zero_bit, one_bit};
+ghost use Rattle.drafts.specs.Limits.{table, common_types, wraps};
+ghost use Rattle.drafts.specs.Limits.{right_bit, padded_bit, zero_bit, one_bit};
 
 use crate::draft::Draft;
 use std::alloc::{AllocError, Global};

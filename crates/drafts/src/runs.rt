@@ -1,4 +1,5 @@
-//! Programs whose runs meet a limit, pass it by little, or lead through much: copies, pulses, live qubits and steps.
+//! Programs whose runs meet a limit, pass it by little, or lead through much: copies, pulses, live
+//! qubits and steps.
 
 ghost use Rattle.std.specs.Prelude.{◌≡◌, [], ◌++◌, ◌+◌, ◌*◌, vec_len, IfOk, OnOk};
 ghost use Rattle.calculus.specs.Terms.{app, lam, pair, let_pair};
@@ -11,7 +12,8 @@ use crate::limits::{common, padded, wrap};
 use calculus::Gate;
 use std::alloc::{AllocError, Global};
 
-// The table of programs that put a function into another's body: the shared types, and !(b>b)*b at 17.
+// The table of programs that put a function into another's body: the shared types, and !(b>b)*b at
+// 17.
 fn with_pair(heap: Global) -> Result<Draft, AllocError>
     ensures types { IfOk result (λ draft. draft.types.items ≡ table pair_types) }
     ensures terms { IfOk result (λ draft. draft.terms.items ≡ []) }
@@ -43,8 +45,8 @@ fn function(draft: &mut Draft, cells: usize) -> Result<(), AllocError>
     padded(draft, cells.saturating_sub(1))
 }
 
-/// A function of so many cells that an application puts so many times into another's body: the term after that step has one
-/// cell more than the product of the times and one more than the cells.
+/// A function of so many cells that an application puts so many times into another's body. The term
+/// after that step has one cell more than the product of the times and one more than the cells.
 pub fn applied_copies(heap: Global, times: usize, cells: usize) -> Result<Draft, AllocError>
     ensures count { IfOk result (λ draft. vec_len draft.terms
         ≡ 2 * times + function_count cells + 3) }
@@ -59,7 +61,8 @@ pub fn applied_copies(heap: Global, times: usize, cells: usize) -> Result<Draft,
     Ok(draft)
 }
 
-/// As `applied_copies`, but that the function is a component of a pair, and a split puts it into the body.
+/// As `applied_copies`, but that the function is a component of a pair, and a split puts it into
+/// the body.
 pub fn split_copies(heap: Global, times: usize, cells: usize) -> Result<Draft, AllocError>
     ensures count { IfOk result (λ draft. vec_len draft.terms
         ≡ 2 * times + function_count cells + 4) }
@@ -117,7 +120,8 @@ fn reread(draft: &mut Draft, held: u8, times: usize) -> Result<(), AllocError> {
     draft.cell('0', 0, bit)
 }
 
-/// Held qubits in pairs, and a bit that so many times is made a qubit and read: handles go round past the held ones.
+/// Held qubits in pairs, and a bit that so many times is made a qubit and read: handles go round
+/// past the held ones.
 pub fn rounds(heap: Global, held: u8, times: usize) -> Result<Draft, AllocError> {
     let mut draft = Draft::new(heap);
     draft.kinds(&"*q".repeat(heap, held.into())?)?;
@@ -127,7 +131,8 @@ pub fn rounds(heap: Global, held: u8, times: usize) -> Result<Draft, AllocError>
     Ok(draft)
 }
 
-// One use of a doubling function, the nearest variable: the identity, doubled so many times, of the bit that follows.
+// One use of a doubling function, the nearest variable: the identity, doubled so many times, of the
+// bit that follows.
 fn doubled(draft: &mut Draft, depth: usize) -> Result<(), AllocError> {
     draft.stored("a 0 0, a 0 1, v 0 27")?;
     for _ in 1..depth {
@@ -155,8 +160,8 @@ pub fn doublings(
     Ok(draft)
 }
 
-/// A function that turns a bit, made so many times into one that splits a pair and calls it again, so that a binder comes
-/// to stand below a copy of itself.
+/// A function that turns a bit, made so many times into one that splits a pair and calls it again,
+/// so that a binder comes to stand below a copy of itself.
 pub fn turns(heap: Global, depth: usize) -> Result<Draft, AllocError> {
     let mut draft = Draft::new(heap);
     draft.kinds("!b>!b!b!>!b!b*!b!b!>!>!b!b!>!b!b>!>!b!b>!b!b>!>!>!b!b!>!b!b!b")?;

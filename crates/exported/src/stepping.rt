@@ -46,10 +46,10 @@ pub extern "C" fn ql_find(nodes: &[Node]) -> Verdict
 /// room: the rule, its cell and the count of the next term; 36 or the finder's fault where no rule
 /// applies, 37 where there are too many cells, 35 at a value.
 ///
-/// The next term is that of a step where the nodes mean a term in which nothing but qubits is free, and
-/// the answer fits the rule. A value is put under binders as it stands, where a step raises the
-/// variables that are free in it. An answer to a rule that asks for none is disregarded; to another rule its
-/// cell stands for the redex, whichever it is.
+/// The next term is that of a step where the nodes mean a term in which nothing but qubits is free,
+/// and the answer fits the rule. A value is put under binders as it stands, where a step raises the
+/// variables that are free in it. An answer to a rule that asks for none is disregarded; to another
+/// rule its cell stands for the redex, whichever it is.
 #[unsafe(no_mangle)]
 pub extern "C" fn ql_next(nodes: &[Node], answer: u64, to: &mut [Node]) -> Verdict
     ensures answer { result ≡ stepped (running_seen nodes.now) (answer_of answer)

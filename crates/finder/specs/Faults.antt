@@ -1,7 +1,8 @@
 -- The faults of the finder with their numbers.
 use Rattle.std.specs.Prelude.{ℕ}
 use Rattle.finder.specs.declared.faults.FindReason.{FindReason}
-use Rattle.finder.specs.declared.faults.FindReason.TheVariants.{TooManyCells, BadCell, NotWhole, NoRule}
+use Rattle.finder.specs.declared.faults.FindReason.TheVariants.{TooManyCells, BadCell, NotWhole}
+use Rattle.finder.specs.declared.faults.FindReason.TheVariants.{NoRule}
 use Rattle.finder.specs.declared.faults.FindFault.{FindFault}
 
 abbrev pub number_of : FindReason → ℕ

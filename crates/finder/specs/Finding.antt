@@ -1,5 +1,7 @@
--- The finder's answer: the tests of cells that may be a running term, and then what the term that they are waits for.
+-- The finder's answer: the tests of cells that may be a running term, and then what the term that
+-- they are waits for.
 use Rattle.std.specs.Prelude.{ℕ, cond, List, length, Some, None, Ok, Err, Option, Result, nat_lt}
+use Rattle.calculus.specs.declared.limits.TheConstants.{MOST_RUNNING_CELLS}
 use Rattle.trees.specs.Failing.{first_failing, none_at}
 use Rattle.trees.specs.Reach.{not_one_tree}
 use Rattle.calculus.specs.Letters.{allowed, arity}
@@ -10,12 +12,14 @@ use Rattle.finder.specs.Faults.{fault}
 use Rattle.finder.specs.Search.{Found, found}
 use Rattle.finder.specs.declared.rules.Rule.{Rule}
 use Rattle.finder.specs.declared.faults.FindFault.{FindFault}
-use Rattle.finder.specs.declared.faults.FindReason.TheVariants.{TooManyCells, BadCell, NotWhole, NoRule}
+use Rattle.finder.specs.declared.faults.FindReason.TheVariants.{TooManyCells, BadCell, NotWhole}
+use Rattle.finder.specs.declared.faults.FindReason.TheVariants.{NoRule}
 
 -- the tests of cells that may be a running term: not too many, each allowed, exactly one tree
 abbrev pub tested : List TermCell → Result (Unit {0}) FindFault
 tested cs =
-    cond (nat_lt 1024 (length cs)) (Err (fault TooManyCells 1024))
+    cond (nat_lt MOST_RUNNING_CELLS (length cs))
+      (Err (fault TooManyCells MOST_RUNNING_CELLS))
     (none_at (fault BadCell) (first_failing allowed cs 0)
     (none_at (fault NotWhole) (not_one_tree arity cs) (Ok tt)))
 
@@ -25,7 +29,8 @@ told None = Ok None
 told (Some (k, Some r)) = Ok (Some (r, k))
 told (Some (k, None)) = Err (fault NoRule k)
 
-abbrev pub past_tests : List TermCell → Result (Unit {0}) FindFault → Result (Option (Rule × ℕ)) FindFault
+abbrev pub past_tests : List TermCell → Result (Unit {0}) FindFault
+    → Result (Option (Rule × ℕ)) FindFault
 past_tests cs (Ok u) = told (found 0 (erased (term_at cs 0)))
 past_tests cs (Err f) = Err f
 

@@ -1,14 +1,18 @@
--- Short running terms, each by the letters of its ops, with the answers that they get. Every argument is 0.
-use Rattle.std.specs.Prelude.{◌≡◌, ℕ, List, [], ◌∷◌, map, replicate, Some, None, Ok, Err, codes, Option, Result}
+-- Short running terms, each by the letters of its ops, with the answers that they get. Every
+-- argument is 0.
+use Rattle.std.specs.Prelude.{◌≡◌, ℕ, List, [], ◌∷◌, map, replicate, codes}
+use Rattle.std.specs.Prelude.{Some, None, Ok, Err, Option, Result}
 use Rattle.calculus.specs.declared.cells.TermCell.{TermCell}
 use Rattle.calculus.specs.Cells.{cell_of}
 use Rattle.finder.specs.Faults.{fault}
 use Rattle.finder.specs.Finding.{answer}
 use Rattle.finder.specs.declared.rules.Rule.{Rule}
-use Rattle.finder.specs.declared.rules.Rule.TheVariants.{Function, Pair, Then, Else, Prepare, Read, Gates}
+use Rattle.finder.specs.declared.rules.Rule.TheVariants.{Function, Pair, Then, Else}
+use Rattle.finder.specs.declared.rules.Rule.TheVariants.{Prepare, Read, Gates}
 use Rattle.finder.specs.declared.faults.FindReason.{FindReason}
 use Rattle.finder.specs.declared.faults.FindFault.{FindFault}
-use Rattle.finder.specs.declared.faults.FindReason.TheVariants.{TooManyCells, BadCell, NotWhole, NoRule}
+use Rattle.finder.specs.declared.faults.FindReason.TheVariants.{TooManyCells, BadCell, NotWhole}
+use Rattle.finder.specs.declared.faults.FindReason.TheVariants.{NoRule}
 
 abbrev lettered : List ℕ → List TermCell
 lettered ops = map (λ op. cell_of op 0 0) ops
@@ -38,7 +42,8 @@ samples =
     ∷ step (codes "an1") Prepare 0
     ∷ step (codes "amq") Read 0
     ∷ step (codes "agq") Gates 0
-    -- the argument before the function, the left before the right, the pair and the condition before the rest
+    -- the argument before the function, the left before the right, the pair and the condition
+    -- before the rest
     ∷ step (codes "aalv0an0") Prepare 5
     ∷ step (codes "aa01an0") Prepare 4
     ∷ step (codes "aalv00") Function 1
@@ -66,5 +71,8 @@ pub record SamplesHold : Type 0 where
   pub each : map (λ s. answer (lettered s.ops)) samples ≡ map (λ s. s.gets) samples
   -- an argument that no op allows, a gate on two qubits, and a cell too many
   pub bad_handle : answer (cell_of 113 32 0 ∷ []) ≡ Err (fault BadCell 0)
-  pub swap : answer (cell_of 97 0 0 ∷ cell_of 103 6 0 ∷ cell_of 112 0 0 ∷ cell_of 113 3 0 ∷ cell_of 113 5 0 ∷ []) ≡ Ok (Some (Gates, 0))
+  pub swap :
+      answer (cell_of 97 0 0 ∷ cell_of 103 6 0
+      ∷ cell_of 112 0 0 ∷ cell_of 113 3 0 ∷ cell_of 113 5 0 ∷ [])
+      ≡ Ok (Some (Gates, 0))
   pub too_many : answer (replicate 1025 (cell_of 120 0 0)) ≡ Err (fault TooManyCells 1024)

@@ -1,13 +1,15 @@
--- The search of a running term for the next step: an application works its argument first and then its function,
--- a pair its left and then its right, a let its pair, a condition its test.
+-- The search of a running term for the next step. An application works its argument first and then
+-- its function, a pair its left and then its right, a let its pair, a condition its test.
 use Rattle.std.specs.Prelude.{ℕ, ◌+◌, Bool, true, false, ◌&&◌, Some, None, Option}
 use Rattle.std.specs.Bool.{then_some}
 use Rattle.std.specs.Option.{option_or}
 use Rattle.calculus.specs.declared.gates.Gate.{Gate}
 use Rattle.calculus.specs.declared.gates.Gate.TheVariants.{H, X, Z, S, T, Cnot, Swap, Toffoli}
-use Rattle.calculus.specs.Terms.{bit_of, meas, new, gate, bound, held, var, const, star, lam, app, pair, if_then_else, let_pair, size, Running}
+use Rattle.calculus.specs.Terms.{bit_of, meas, new, gate, bound, held, size, Running}
+use Rattle.calculus.specs.Terms.{var, const, star, lam, app, pair, if_then_else, let_pair}
 use Rattle.finder.specs.declared.rules.Rule.{Rule}
-use Rattle.finder.specs.declared.rules.Rule.TheVariants.{Function, Pair, Then, Else, Prepare, Read, Gates}
+use Rattle.finder.specs.declared.rules.Rule.TheVariants.{Function, Pair, Then, Else}
+use Rattle.finder.specs.declared.rules.Rule.TheVariants.{Prepare, Read, Gates}
 
 abbrev pub is_bit : Running → Bool
 is_bit (var c x) = false
@@ -95,7 +97,8 @@ opened (pair c m n) = Some Pair
 opened (if_then_else c p m n) = None
 opened (let_pair c m n) = None
 
--- What a term waits for: nothing where it is a value, and else the cell that is due, with the rule that applies there, if one does.
+-- What a term waits for: nothing where it is a value, and else the cell that is due, with the rule
+-- that applies there, if one does.
 abbrev pub Found : Type 0
 Found = Option (ℕ × Option Rule)
 
@@ -105,7 +108,8 @@ found at (var c x) = None
 found at (const c k) = None
 found at (star c) = None
 found at (lam c m) = None
-found at (app c m n) = option_or (found (at + 1 + size m) n) (option_or (found (at + 1) m) (Some (at, applied m n)))
+found at (app c m n) =
+    option_or (found (at + 1 + size m) n) (option_or (found (at + 1) m) (Some (at, applied m n)))
 found at (pair c m n) = option_or (found (at + 1) m) (found (at + 1 + size m) n)
 found at (if_then_else c p m n) = option_or (found (at + 1) p) (Some (at, branched p))
 found at (let_pair c m n) = option_or (found (at + 1) m) (Some (at, opened m))

@@ -1,7 +1,9 @@
 -- The sheet of the finder's refusals, one constructor to a row, and the order in which they are
 -- tried.
-use Rattle.std.specs.Prelude.{◌≡◌, ℕ, ◌<◌, ◌⊎◌, ◌↔◌, false, List, ◌∷◌, ◌++◌, length, Some, Ok, Err, Option, Result}
+use Rattle.std.specs.Prelude.{◌≡◌, ℕ, ◌<◌, ◌⊎◌, ◌↔◌, false, List, ◌∷◌, ◌++◌, length}
+use Rattle.std.specs.Prelude.{Some, Ok, Err, Option, Result}
 use Rattle.std.specs.List.{slice_get}
+use Rattle.calculus.specs.declared.limits.TheConstants.{MOST_RUNNING_CELLS}
 use Rattle.calculus.specs.Cells.{placed_cells}
 use Rattle.calculus.specs.Letters.{allowed}
 use Rattle.calculus.specs.Reduction.{Effect, Reduces}
@@ -14,11 +16,13 @@ use Rattle.finder.specs.Laws.{Means}
 use Rattle.finder.specs.declared.rules.Rule.{Rule}
 use Rattle.finder.specs.declared.faults.FindFault.{FindFault}
 use Rattle.finder.specs.declared.faults.FindReason.{FindReason}
-use Rattle.finder.specs.declared.faults.FindReason.TheVariants.{TooManyCells, BadCell, NotWhole, NoRule}
+use Rattle.finder.specs.declared.faults.FindReason.TheVariants.{TooManyCells, BadCell, NotWhole}
+use Rattle.finder.specs.declared.faults.FindReason.TheVariants.{NoRule}
 
 -- The row of this reason holds at this cell.
 pub data Row (cells : List TermCell) : FindReason → ℕ → Type 0 where
-  too_many : 1024 < length cells → Row cells TooManyCells 1024
+  too_many : MOST_RUNNING_CELLS < length cells
+      → Row cells TooManyCells MOST_RUNNING_CELLS
   not_allowed : {k : ℕ} (c : TermCell) → slice_get cells k ≡ Some c → allowed c ≡ false
       → Row cells BadCell k
   unfinished : ((m : Term ℕ) (cs : List TermCell) → cells ≡ placed_cells m ++ cs → ⊥)

@@ -1,9 +1,13 @@
 -- Where a step is made and by which rule, read off its derivation.
 use Rattle.std.specs.Prelude.{ℕ, ◌+◌}
 use Rattle.calculus.specs.Terms.{Running, size}
-use Rattle.calculus.specs.Reduction.{Effect, Reduces, apply_function, open_pair, take_then, take_else, prepare_qubit, read_qubit, apply_gate, in_argument, in_function, in_left, in_right, in_condition, in_pair}
+use Rattle.calculus.specs.Reduction.{Effect, Reduces, in_argument, in_function}
+use Rattle.calculus.specs.Reduction.{in_left, in_right, in_condition, in_pair}
+use Rattle.calculus.specs.Reduction.{apply_function, open_pair, take_then, take_else}
+use Rattle.calculus.specs.Reduction.{prepare_qubit, read_qubit, apply_gate}
 use Rattle.finder.specs.declared.rules.Rule.{Rule}
-use Rattle.finder.specs.declared.rules.Rule.TheVariants.{Function, Pair, Then, Else, Prepare, Read, Gates}
+use Rattle.finder.specs.declared.rules.Rule.TheVariants.{Function, Pair, Then, Else}
+use Rattle.finder.specs.declared.rules.Rule.TheVariants.{Prepare, Read, Gates}
 
 -- the rule by which a step is made
 abbrev pub step_rule : {m n : Running} {e : Effect} → Reduces m e n → Rule

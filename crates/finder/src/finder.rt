@@ -167,8 +167,8 @@ fn test_cells(cells: &[TermCell]) -> Result<(), FindFault>
     FindReason::NotWhole.refuse_at(not_one_tree(cells))
 }
 
-/// The rule that applies to a running term and the cell it applies at, or nothing for a value; claims
-/// are disregarded. A refusal is by the first row of the sheet that holds.
+/// The rule that applies to a running term and the cell it applies at, or nothing for a value.
+/// Claims are disregarded. A refusal is by the first row of the sheet that holds.
 pub fn find(cells: &[TermCell]) -> Result<Option<(Rule, usize)>, FindFault>
     ensures answer { result ≡ answer cells.now }
     ensures first { Answers cells.now result }

@@ -1,10 +1,12 @@
-//! What holds of every search. Each function stands for a theorem: its contract is the theorem's statement.
+//! What holds of every search. Each function stands for a theorem: its contract is the theorem's
+//! statement.
 
 ghost use Rattle.finder.specs.Laws.{SearchIsReduction};
 ghost use Rattle.finder.specs.Samples.{SamplesHold};
 ghost use Rattle.finder.specs.Sheet.{FirstRowAnswers};
 
-/// The finder answers nothing exactly for values, a rule and a cell exactly where the calculus makes a step, and else the cell where the search ends.
+/// The finder answers nothing exactly for values, and a rule and a cell exactly where the calculus
+/// makes a step. For the other terms it answers the cell where the search ends.
 pub fn search_is_reduction()
     ensures { SearchIsReduction }
 {}

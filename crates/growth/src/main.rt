@@ -1,5 +1,6 @@
-//! Shows how checks and steps grow with the size of a term: the time for each at doubled sizes, and its ratio to the size before.
-//! The times go to standard error, since they differ from run to run.
+//! Shows how checks and steps grow with the size of a term: the time for each at doubled sizes, and
+//! its ratio to the time at the size before. The times go to standard error, since they differ from
+//! run to run.
 #![tactic(auto)]
 
 use anyhow::{bail, ensure};
@@ -20,7 +21,8 @@ fn cell(op: char) -> TermCell {
     }
 }
 
-// Conditions within conditions: so many `i` cells, a bit, and two branches for each, three cells a layer and one.
+// Conditions within conditions: so many `i` cells, a bit, and two branches for each, three cells a
+// layer and one.
 fn conditions(heap: Global, layers: usize) -> Result<Vec<TermCell>, AllocError> {
     let mut cells = vec![in heap; cell('i'); layers]?;
     cells.push(cell('0'))?;
@@ -63,7 +65,8 @@ fn step(cells: &[TermCell], work: &mut [TermCell]) -> anyhow::Result<()> {
     Ok(())
 }
 
-// One line: the size, the time and, after the first size, its ratio to the time before in hundredths.
+// One line: the size, the time and, after the first size, its ratio to the time before in
+// hundredths.
 fn report(
     rt: &HostRuntime,
     what: &str,

@@ -1,5 +1,5 @@
-//! Types as boxed trees, each node of which counts the marks that lead it, so that stripping them is no work; and the
-//! variables that a constant uses.
+//! Types as boxed trees, each node of which counts the marks that lead it, so that stripping them
+//! is no work; and the variables that a constant uses.
 #![tactic(auto)]
 
 ghost use Rattle.std.specs.Prelude.{◌≡◌, [], ◌∷◌, ◌++◌, ◌+◌, ◌-◌, ◌^◌, min, IfOk, OnOk};
@@ -12,8 +12,8 @@ use calculus::TypeCell;
 use std::alloc::{AllocError, Global};
 use std::collections::BTreeSet;
 
-/// A type: how many marks (`!`) lead it, and the head that they lead. From one mark on, its values may be used any number
-/// of times.
+/// A type: how many marks (`!`) lead it, and the head that they lead. From one mark on, its values
+/// may be used any number of times.
 #[cycle(kind)]
 #[derive(Drop)]
 pub struct Kind {

@@ -1,6 +1,7 @@
 -- The listing of a text, as a function: the text is read, and its program is checked, loaded on a
 -- new tape and run.
 use Rattle.std.specs.Prelude.{ℕ, List, [], ◌∷◌, replicate, take, Ok, Err, Result}
+use Rattle.calculus.specs.declared.limits.TheConstants.{MOST_RUNNING_CELLS}
 use Rattle.calculus.specs.Cells.{blank}
 use Rattle.calculus.specs.declared.cells.TermCell.{TermCell}
 use Rattle.calculus.specs.declared.cells.TypeCell.{TypeCell}
@@ -25,6 +26,7 @@ use Rattle.controller.specs.Shots.{nothing_held, program_held}
 use Rattle.listing.specs.Lines.{text_of}
 use Rattle.listing.specs.Listing.{before_empty, refusal_line, run_lines}
 use Rattle.listing.specs.Playing.{alternating, reading_of}
+use Rattle.listing.specs.declared.shots.TheConstants.{BUDGET, CAPACITY, MOST_BYTES, PULSES}
 
 -- the lines of a listing, each by its fields
 abbrev pub Lines : Type 0
@@ -35,8 +37,9 @@ Lines = List (List (List ℕ))
 abbrev pub start_of_run : List TypeCell → List TermCell → Standing Reel
 start_of_run types terms = record {
   shot = program_held types terms;
-  register = after_clear tape_changes (new_tape 8 (alternating 64) (replicate 64 Empty));
-  work = replicate 1024 blank;
+  register = after_clear tape_changes
+    (new_tape CAPACITY (alternating PULSES) (replicate PULSES Empty));
+  work = replicate MOST_RUNNING_CELLS blank;
 }
 
 -- the pulses that were spent
@@ -60,7 +63,7 @@ module _ (types : List TypeCell) (terms : List TermCell) where
   -- the lines of a program that is loaded, of one that is checked, and of one in cells
   abbrev pub lines_after_load : Result ℕ Refusal → Lines
   lines_after_load (Ok n) =
-      lines_of_run (run_of tape_changes tape_tells 1000 (start_of_run types terms))
+      lines_of_run (run_of tape_changes tape_tells BUDGET (start_of_run types terms))
   lines_after_load (Err f) = lines_of_refusal f
 
   abbrev pub lines_after_check : Result (Unit {0}) CheckFault → Lines
@@ -84,7 +87,7 @@ listing_of text = text_of (lines_of_text text)
 
 -- the listing of an input, of which no byte after the 16,384th is read
 abbrev pub most_bytes : ℕ
-most_bytes = 16384
+most_bytes = MOST_BYTES
 
 abbrev pub listing_of_input : List ℕ → List ℕ
 listing_of_input all = listing_of (take most_bytes all)

@@ -1,6 +1,7 @@
 -- The lines of a listing: steps and stop, the value with its type, the pulses in order, and a
 -- refusal last.
-use Rattle.std.specs.Prelude.{ℕ, ◌-◌, Bool, true, false, List, [], ◌∷◌, ◌++◌, map, length, take, replicate, codes, decimal}
+use Rattle.std.specs.Prelude.{ℕ, ◌-◌, Bool, true, false, List, [], ◌∷◌, ◌++◌, map, length, take}
+use Rattle.std.specs.Prelude.{replicate, codes, decimal}
 use Rattle.std.specs.Char.{encode_utf8}
 use Rattle.std.specs.List.{enumerate_from}
 use Rattle.calculus.specs.Gates.{number_of, operands_of}

@@ -1,7 +1,11 @@
 -- What playing a shot comes to: its text is read, its row is played on a new tape, and the shot is
 -- what the replies report.
-use Rattle.std.specs.Prelude.{◌≡◌, ℕ, ◌%◌, List, [], ◌∷◌, map, replicate, take, None, Ok, Err, Option, Result}
+use Rattle.std.specs.Prelude.{◌≡◌, ℕ, ◌%◌, List, [], ◌∷◌, map, replicate, take, None, Ok, Err}
+use Rattle.std.specs.Prelude.{Option, Result}
 use Rattle.std.specs.List.{range_with_len}
+use Rattle.calculus.specs.declared.limits.TheConstants.{MOST_TYPE_CELLS, MOST_TERM_CELLS}
+use Rattle.calculus.specs.declared.limits.TheConstants.{MOST_RUNNING_CELLS}
+use Rattle.listing.specs.declared.shots.TheConstants.{BUDGET, CAPACITY, PULSES}
 use Rattle.calculus.specs.Cells.{blank, kind_cell}
 use Rattle.calculus.specs.declared.cells.TermCell.{TermCell}
 use Rattle.calculus.specs.declared.cells.TypeCell.{TypeCell}
@@ -32,7 +36,9 @@ alternating count = map (λ k. k % 2) (range_with_len 0 count)
 
 -- what is read of a text into new tables
 abbrev pub reading_of : List ℕ → Outcome
-reading_of text = reading text (replicate 256 (kind_cell 0)) (replicate 512 blank)
+reading_of text =
+    reading text (replicate MOST_TYPE_CELLS (kind_cell 0))
+    (replicate MOST_TERM_CELLS blank)
 
 -- refused by the checker, at a cell, or by a call
 abbrev pub shot_of_fault : TurnFault → Shot
@@ -55,14 +61,15 @@ shot_of_report (Ok r) end =
 -- a tape and tables as a shot begins with them
 abbrev pub fresh_stage : Tape → Stage Tape
 fresh_stage tape =
-    stage nothing_held tape (replicate 1024 blank) (replicate 1024 blank)
-    (replicate 256 (kind_cell 0))
+    stage nothing_held tape (replicate MOST_RUNNING_CELLS blank)
+    (replicate MOST_RUNNING_CELLS blank) (replicate MOST_TYPE_CELLS (kind_cell 0))
 
 module _ (kind : Ghosts Tape) where
   -- A load, a run of at most 1,000 steps and a collect are played on a tape, with these replies.
   abbrev pub RowOfShot : Tape → Turn → List (Option Reply) → Stage Tape → Type 0
   RowOfShot tape load replies end =
-      RowPlayed kind (fresh_stage tape) (load ∷ Run 1000 1024 ∷ Collect 1024 256 ∷ [])
+      RowPlayed kind (fresh_stage tape) (load ∷ Run BUDGET MOST_RUNNING_CELLS
+      ∷ Collect MOST_RUNNING_CELLS MOST_TYPE_CELLS ∷ [])
       (replicate 3 None) replies end
 
   -- The row of these cells is played on a new tape of eight qubits and 64 pulses, and the shot is
@@ -71,7 +78,7 @@ module _ (kind : Ghosts Tape) where
     pub load : Turn
     pub loads : Loads types terms load
     pub tape : Tape
-    pub is_new : tape_meaning tape ≡ new_tape 8 (alternating 64) (replicate 64 Empty)
+    pub is_new : tape_meaning tape ≡ new_tape CAPACITY (alternating PULSES) (replicate PULSES Empty)
     pub loaded : Option Reply
     pub run : Option Reply
     pub collected : Option Reply

@@ -3,8 +3,9 @@
 ghost use Rattle.std.specs.Prelude.{◌≡◌, ◌+◌, ◌≤◌, ◌++◌, [], ◌∷◌, length, map, encode_utf8};
 ghost use Rattle.arrayvec.specs.ArrayString.{array_string_len};
 ghost use Rattle.listing.specs.Lines.{after_field};
-ghost use Rattle.listing.specs.Listing.{before_empty, call, code_of, steps_line, with_dashes, kind_line, op_line, pulse_line};
-ghost use Rattle.listing.specs.Listing.{pulse_lines, refusal_line, stop_lines, listing_text};
+ghost use Rattle.listing.specs.Listing.{before_empty, call, code_of, steps_line, with_dashes};
+ghost use Rattle.listing.specs.Listing.{kind_line, op_line, pulse_line, pulse_lines, refusal_line};
+ghost use Rattle.listing.specs.Listing.{stop_lines, listing_text};
 ghost use Rattle.listing.specs.Writing.{RoomFor, Appends};
 
 use crate::shots::{PULSES, Shot};

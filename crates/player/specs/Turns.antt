@@ -24,9 +24,12 @@ pub record Rooms : Type 0 where
 abbrev pub rooms : ℕ → ℕ → ℕ → Rooms
 rooms work value kinds = record { work = work; value = value; kinds = kinds }
 
--- The turn is this member of a row: a load is of the accepted program that its tables store, and no table is longer than its room.
+-- The turn is this member of a row. A load is of the accepted program that its tables store. No
+-- table is longer than its room.
 abbrev pub IsMember : Rooms → Turn → Member → Type 0
-IsMember r (Load types terms) x = (program_verdict types.now terms.now ≡ accepted) × (p : Program) × (p.term ≡ meaning types.now terms.now 0) × (x ≡ load p)
+IsMember r (Load types terms) x =
+    (program_verdict types.now terms.now ≡ accepted)
+    × (p : Program) × (p.term ≡ meaning types.now terms.now 0) × (x ≡ load p)
 IsMember r (Step room) x = x ≡ step (min room r.work)
 IsMember r (Run budget room) x = x ≡ run budget (min room r.work)
 IsMember r (Collect room kind_room) x = x ≡ collect (min room r.value) (min kind_room r.kinds)
@@ -34,7 +37,8 @@ IsMember r Abandon x = x ≡ abandon
 
 -- The program is not accepted, and the reply is the checker's fault.
 abbrev pub Unaccepted : List TypeCell → List TermCell → Reply → Type 0
-Unaccepted types terms y = (f : CheckFault) × (program_verdict types terms ≡ Err f) × (y ≡ Err (NotAccepted f))
+Unaccepted types terms y =
+    (f : CheckFault) × (program_verdict types terms ≡ Err f) × (y ≡ Err (NotAccepted f))
 
 -- The turn is no member: it loads a program that is not accepted.
 abbrev pub NotPlayed : Turn → Reply → Type 0
@@ -52,11 +56,14 @@ is_refused (Err (Refused f)) = true
 
 module _ {R : Type 0} (kind : Ghosts R) where
   -- A load by its tables is played: as a member of a row, or nothing is called.
-  abbrev pub LoadPlayed : List TypeCell → List TermCell → Controller R kind → Controller R kind → Reply → Type 0
+  abbrev pub LoadPlayed : List TypeCell → List TermCell → Controller R kind → Controller R kind
+      → Reply → Type 0
   LoadPlayed types terms c c' y =
-      ((program_verdict types terms ≡ accepted) × LoadKeeps kind types terms c c' (is_refused y)) ⊎ (Unaccepted types terms y × (c'.shot ≡ c.shot) × (c'.register ≡ c.register))
+      ((program_verdict types terms ≡ accepted) × LoadKeeps kind types terms c c' (is_refused y))
+      ⊎ (Unaccepted types terms y × (c'.shot ≡ c.shot) × (c'.register ≡ c.register))
 
   -- A turn is played: as the member that it is, or nothing is called.
   abbrev pub TurnPlayed : Rooms → Turn → Controller R kind → Controller R kind → Reply → Type 0
   TurnPlayed r turn c c' y =
-      ((x : Member) × IsMember r turn x × CallKeeps kind x c c' (is_refused y)) ⊎ (NotPlayed turn y × (c'.shot ≡ c.shot) × (c'.register ≡ c.register))
+      ((x : Member) × IsMember r turn x × CallKeeps kind x c c' (is_refused y))
+      ⊎ (NotPlayed turn y × (c'.shot ≡ c.shot) × (c'.register ≡ c.register))

@@ -1,4 +1,5 @@
-//! Rows played on a new controller: the turns are given as data, each is one call, and each has its reply.
+//! Rows played on a new controller. The turns are given as data, each is one call, and each has its
+//! reply.
 #![tactic(auto)]
 
 mod playing;

@@ -5,8 +5,8 @@ ghost use Rattle.checker.specs.Accepting.{program_verdict};
 ghost use Rattle.rows.specs.Members.{step, run, collect, abandon};
 ghost use Rattle.controller.specs.Calls.{CallKeeps};
 ghost use Rattle.controller.specs.Shots.{held, nothing_held};
-ghost use Rattle.player.specs.Stages.{stage, load_made, TurnMakes};
-ghost use Rattle.player.specs.Stages.{StepMakes, RunMakes, CollectMakes, AbandonMakes};
+ghost use Rattle.player.specs.Stages.{stage, load_made, TurnMakes, StepMakes, RunMakes};
+ghost use Rattle.player.specs.Stages.{CollectMakes, AbandonMakes};
 ghost use Rattle.player.specs.Turns.{rooms, is_refused, LoadPlayed, TurnPlayed};
 ghost use Rattle.player.specs.Playing.{RowPlayed};
 ghost use Rattle.player.specs.Settled.{RowIsSettled};
@@ -119,7 +119,8 @@ fn play_turn<R: Register>(
     }
 }
 
-/// Plays a row on a new controller over a register, turn by turn, as long as there are places for replies; answers the controller.
+/// Plays a row on a new controller over a register, turn by turn, as long as there are places for
+/// replies. Answers the controller.
 pub fn play<R: Register>(
     register: R,
     row: &[Turn],

@@ -7,7 +7,8 @@ use calculus::{TermCell, TypeCell};
 use controller::{Refusal, Stop};
 use verdict::CheckFault;
 
-/// A call of the controller as data. The call has the first cells of a table, as many as its turn gives it.
+/// A call of the controller as data. The call has the first cells of a table, as many as its turn
+/// gives it.
 #[derive(Clone, Copy, Drop)]
 pub enum Turn<'a> {
     /// Checks a program, and loads it if it is accepted.
@@ -16,7 +17,7 @@ pub enum Turn<'a> {
     Step(usize),
     /// A run with this budget, with so many cells of the work table.
     Run(u64, usize),
-    /// Collects into so many cells of the table for values, and so many of the table for their types.
+    /// Collects into so many cells of the table for values, and so many of the table for types.
     Collect(usize, usize),
     Abandon,
 }

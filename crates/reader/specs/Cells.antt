@@ -1,5 +1,6 @@
 -- The cells that fields say, and the room for them.
-use Rattle.std.specs.Prelude.{ℕ, ◌+◌, Bool, cond, ◌&&◌, List, [], ◌∷◌, length, is_some, Some, None, Ok, Err, Option, Result, nat_lt, slice_set}
+use Rattle.std.specs.Prelude.{ℕ, ◌+◌, Bool, cond, ◌&&◌, nat_lt, List, [], ◌∷◌, length, slice_set}
+use Rattle.std.specs.Prelude.{is_some, Some, None, Ok, Err, Option, Result}
 use Rattle.calculus.specs.declared.cells.TermCell.{TermCell}
 use Rattle.calculus.specs.declared.cells.TypeCell.{TypeCell}
 use Rattle.calculus.specs.Letters.{letter, shape_of, kind_parts_of}

@@ -1,5 +1,6 @@
 -- How a stored program is read: line by line, to an answer and both tables.
 use Rattle.std.specs.Prelude.{ℕ, ◌+◌, ◌-◌, Bool, cond, ◌&&◌, List, [], ◌∷◌, Ok, Err, Result, ◌==◌}
+use Rattle.calculus.specs.declared.limits.TheConstants.{MOST_TYPE_CELLS, MOST_TERM_CELLS}
 use Rattle.calculus.specs.declared.cells.TermCell.{TermCell}
 use Rattle.calculus.specs.declared.cells.TypeCell.{TypeCell}
 use Rattle.reader.specs.declared.faults.ReadFault.{ReadFault}
@@ -37,9 +38,11 @@ to_kinds p (Err e) = Err e
 to_kinds p (Ok n) = Ok (record { section = p.section; kinds = n; ops = p.ops })
 
 -- a kind line's cell goes to the place after the earlier ones, if there is room
-abbrev pub with_kind : Place → Result TypeCell ReadReason → List TypeCell → List TermCell → Left (Result Place ReadReason)
+abbrev pub with_kind : Place → Result TypeCell ReadReason → List TypeCell → List TermCell
+    → Left (Result Place ReadReason)
 with_kind p (Err e) ts ms = left (Err e) ts ms
-with_kind p (Ok c) ts ms = left (to_kinds p (next_place 256 ts p.kinds)) (with_cell 256 ts p.kinds c) ms
+with_kind p (Ok c) ts ms =
+    left (to_kinds p (next_place MOST_TYPE_CELLS ts p.kinds)) (with_cell MOST_TYPE_CELLS ts p.kinds c) ms
 
 -- the place, once an op cell has its own
 abbrev pub to_ops : Place → Result ℕ ReadReason → Result Place ReadReason
@@ -47,12 +50,14 @@ to_ops p (Err e) = Err e
 to_ops p (Ok n) = Ok (record { section = p.section; kinds = p.kinds; ops = n })
 
 -- and so does an op line's
-abbrev pub with_op : Place → Result TermCell ReadReason → List TypeCell → List TermCell → Left (Result Place ReadReason)
+abbrev pub with_op : Place → Result TermCell ReadReason → List TypeCell → List TermCell
+    → Left (Result Place ReadReason)
 with_op p (Err e) ts ms = left (Err e) ts ms
-with_op p (Ok c) ts ms = left (to_ops p (next_place 512 ms p.ops)) ts (with_cell 512 ms p.ops c)
+with_op p (Ok c) ts ms = left (to_ops p (next_place MOST_TERM_CELLS ms p.ops)) ts (with_cell MOST_TERM_CELLS ms p.ops c)
 
 -- a line that its section allows
-abbrev pub allowed_line : Place → Said → List TypeCell → List TermCell → Left (Result Place ReadReason)
+abbrev pub allowed_line : Place → Said → List TypeCell → List TermCell
+    → Left (Result Place ReadReason)
 allowed_line p header ts ms = left (Ok p) ts ms
 allowed_line p (kind f) ts ms = with_kind p (kind_cell f) ts ms
 allowed_line p (term f g h) ts ms = with_op p (op_cell f g h) ts ms
@@ -60,9 +65,11 @@ allowed_line p (counts f g) ts ms = left (Ok p) ts ms
 allowed_line p other ts ms = left (Ok p) ts ms
 
 -- a line in a section that allows it, or not
-abbrev pub line_in : Place → Result Section ReadReason → Said → List TypeCell → List TermCell → Left (Result Place ReadReason)
+abbrev pub line_in : Place → Result Section ReadReason → Said → List TypeCell → List TermCell
+    → Left (Result Place ReadReason)
 line_in p (Err e) s ts ms = left (Err e) ts ms
-line_in p (Ok sec) s ts ms = allowed_line (record { section = sec; kinds = p.kinds; ops = p.ops }) s ts ms
+line_in p (Ok sec) s ts ms =
+    allowed_line (record { section = sec; kinds = p.kinds; ops = p.ops }) s ts ms
 
 -- a line, ended by byte 10
 abbrev pub line_read : Place → Said → List TypeCell → List TermCell → Left (Result Place ReadReason)
@@ -97,19 +104,22 @@ abbrev pub Outcome : Type 0
 Outcome = Left (Result (ℕ × ℕ) ReadFault)
 
 -- the end of a read at a fault, or more of it
-abbrev pub by_answer : ℕ → Result Place ReadReason → List TypeCell → List TermCell → (Place → List TypeCell → List TermCell → Outcome) → Outcome
+abbrev pub by_answer : ℕ → Result Place ReadReason → List TypeCell → List TermCell
+    → (Place → List TypeCell → List TermCell → Outcome) → Outcome
 by_answer due (Err e) ts ms more = left (fault e due) ts ms
 by_answer due (Ok p) ts ms more = more p ts ms
 
 -- a refused line ends the read, any other leads to the next
-abbrev pub after_line : ℕ → Left (Result Place ReadReason) → (Place → List TypeCell → List TermCell → Outcome) → Outcome
+abbrev pub after_line : ℕ → Left (Result Place ReadReason)
+    → (Place → List TypeCell → List TermCell → Outcome) → Outcome
 after_line due l more = by_answer due l.answer l.types l.terms more
 
 -- the ended lines, from the line that is due, and what stands after them
 abbrev pub reads : List (List ℕ) → ℕ → Place → List TypeCell → List TermCell → Outcome
 reads [] due p ts ms = left (closed [] due p) ts ms
 reads (rest ∷ []) due p ts ms = left (closed rest due p) ts ms
-reads (line ∷ next ∷ lines) due p ts ms = after_line due (line_read p (said line) ts ms) (reads (next ∷ lines) (due + 1))
+reads (line ∷ next ∷ lines) due p ts ms =
+    after_line due (line_read p (said line) ts ms) (reads (next ∷ lines) (due + 1))
 
 -- what reading a text leaves
 abbrev pub reading : List ℕ → List TypeCell → List TermCell → Outcome

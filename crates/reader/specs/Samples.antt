@@ -83,5 +83,9 @@ pub record SamplesHold : Type 0 where
   pub each : map (λ s. reading s.text (replicate 3 a_kind) (replicate 2 an_op)) samples
       ≡ map (λ s. left s.answer s.types s.terms) samples
   -- a longer table does not lift a limit
-  pub kinds_end : (reading (text_of (header_line ∷ replicate 257 (spelled_out (codes "T b")))) (replicate 300 a_kind) []).answer ≡ fault Full 258
-  pub ops_end : (reading (text_of (header_line ∷ replicate 513 (spelled_out (codes "M 0 0 0")))) [] (replicate 600 an_op)).answer ≡ fault Full 514
+  pub kinds_end :
+      let text = text_of (header_line ∷ replicate 257 (spelled_out (codes "T b"))) in
+      (reading text (replicate 300 a_kind) []).answer ≡ fault Full 258
+  pub ops_end :
+      let text = text_of (header_line ∷ replicate 513 (spelled_out (codes "M 0 0 0"))) in
+      (reading text [] (replicate 600 an_op)).answer ≡ fault Full 514

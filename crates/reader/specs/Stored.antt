@@ -1,6 +1,8 @@
 -- The text of a stored program, written from the cells that its lines say.
-use Rattle.std.specs.Prelude.{◌≡◌, ℕ, ◌-◌, ◌≤◌, true, ◌⊎◌, List, [], ◌∷◌, ◌++◌, map, length, take, drop, Some, Ok, Err, decimal, Result, ◌≢◌}
+use Rattle.std.specs.Prelude.{◌≡◌, ◌≢◌, ℕ, ◌-◌, ◌≤◌, true, ◌⊎◌, Some, Ok, Err, Result}
+use Rattle.std.specs.Prelude.{List, [], ◌∷◌, ◌++◌, map, length, take, drop, decimal}
 use Rattle.std.specs.List.{flat_map, AllByRecursion}
+use Rattle.calculus.specs.declared.limits.TheConstants.{MOST_TYPE_CELLS, MOST_TERM_CELLS}
 use Rattle.calculus.specs.declared.cells.TermCell.{TermCell}
 use Rattle.calculus.specs.declared.cells.TypeCell.{TypeCell}
 use Rattle.reader.specs.declared.faults.ReadFault.{ReadFault}
@@ -42,12 +44,14 @@ KindKnown c = is_kind c.kind ≡ true
 abbrev pub OpKnown : TermCell → Type 0
 OpKnown c = (is_op c.op ≡ true) × (c.argument ≤ 65535) × (c.claim ≤ 65535)
 
--- letters of the calculus and numbers up to 65,535, no more of them than the limits and the tables allow
-pub record Fitting (ks : List TypeCell) (os : List TermCell) (ts : List TypeCell) (ms : List TermCell) : Type 0 where
+-- letters of the calculus and numbers up to 65,535, no more of them than the limits and the tables
+-- allow
+pub record Fitting (ks : List TypeCell) (os : List TermCell)
+    (ts : List TypeCell) (ms : List TermCell) : Type 0 where
   pub kinds_known : AllByRecursion KindKnown ks
   pub ops_known : AllByRecursion OpKnown os
-  pub kinds_within : (length ks ≤ 256) × (length ks ≤ length ts)
-  pub ops_within : (length os ≤ 512) × (length os ≤ length ms)
+  pub kinds_within : (length ks ≤ MOST_TYPE_CELLS) × (length ks ≤ length ts)
+  pub ops_within : (length os ≤ MOST_TERM_CELLS) × (length os ≤ length ms)
 
 -- a table that begins with these cells, its rest as it was
 abbrev pub fronted : {T : Type 0} → List T → List T → List T
@@ -57,35 +61,46 @@ fronted cs table = cs ++ drop (length cs) table
 abbrev pub holding : List TypeCell → List TermCell → List TypeCell → List TermCell → Outcome
 holding ks os ts ms = left (Ok (length ks, length os)) (fronted ks ts) (fronted os ms)
 
--- lines at the start of a program, with the cells that they say: none, some up to the end line, or this one too
+-- lines at the start of a program, with the cells that they say: none, some up to the end line, or
+-- this one too
 abbrev pub Begins : List (List ℕ) → List TypeCell → List TermCell → Type 0
 Begins ls ks os =
     ((ls ≡ []) × (ks ≡ []) × (os ≡ []))
-    ⊎ ((ls ≡ cell_lines ks os) ⊎ ((m : ℕ) × (n : ℕ) × (ls ≡ cell_lines ks os ++ (end_line m n ∷ []))))
+    ⊎ ((ls ≡ cell_lines ks os)
+    ⊎ ((m : ℕ) × (n : ℕ) × (ls ≡ cell_lines ks os ++ (end_line m n ∷ []))))
 
 -- What a read has done, by its answer.
-abbrev pub Done : List ℕ → List TypeCell → List TermCell → Result (ℕ × ℕ) ReadFault → List TypeCell → List TermCell → Type 0
+abbrev pub Done : List ℕ → List TypeCell → List TermCell → Result (ℕ × ℕ) ReadFault
+    → List TypeCell → List TermCell → Type 0
 -- the text is that of a program, and the tables hold its cells
 Done text ts ms (Ok n) us ns =
     (ks : List TypeCell) × (os : List TermCell) × (text ≡ written ks os) × Fitting ks os ts ms
     × (n ≡ (length ks, length os)) × (us ≡ fronted ks ts) × (ns ≡ fronted os ms)
--- the text is that of no program that fits, and the tables hold the cells of the lines before the one at fault
+-- the text is that of no program that fits, and the tables hold the cells of the lines before the
+-- one at fault
 Done text ts ms (Err f) us ns =
     ((ks : List TypeCell) (os : List TermCell) → Fitting ks os ts ms → text ≢ written ks os)
-    × ((ks : List TypeCell) × (os : List TermCell) × Begins (take (f.line - 1) (pieces 10 text)) ks os
+    × ((ks : List TypeCell) × (os : List TermCell)
+    × Begins (take (f.line - 1) (pieces 10 text)) ks os
     × (us ≡ fronted ks ts) × (ns ≡ fronted os ms))
 
 -- the counts of an accepted read are within the limits and the tables
 abbrev pub Bounded : Result (ℕ × ℕ) ReadFault → List TypeCell → List TermCell → Type 0
-Bounded (Ok n) ts ms = (n.0 ≤ 256) × (n.0 ≤ length ts) × (n.1 ≤ 512) × (n.1 ≤ length ms)
+Bounded (Ok n) ts ms = (n.0 ≤ MOST_TYPE_CELLS) × (n.0 ≤ length ts)
+    × (n.1 ≤ MOST_TERM_CELLS) × (n.1 ≤ length ms)
 Bounded (Err f) ts ms = Unit {0}
 
 -- What holds of every read.
 pub record Exact : Type 0 where
   -- every read is done so
-  pub done : (text : List ℕ) (ts : List TypeCell) (ms : List TermCell) → Done text ts ms (reading text ts ms).answer (reading text ts ms).types (reading text ts ms).terms
+  pub done : (text : List ℕ) (ts : List TypeCell) (ms : List TermCell)
+      → Done text ts ms (reading text ts ms).answer
+      (reading text ts ms).types (reading text ts ms).terms
   -- the text of a program that fits is accepted, and read back to the same cells
-  pub read_back : (ks : List TypeCell) (os : List TermCell) (ts : List TypeCell) (ms : List TermCell) → Fitting ks os ts ms → reading (written ks os) ts ms ≡ holding ks os ts ms
+  pub read_back : (ks : List TypeCell) (os : List TermCell)
+      (ts : List TypeCell) (ms : List TermCell) → Fitting ks os ts ms
+      → reading (written ks os) ts ms ≡ holding ks os ts ms
   -- a number field is what is written of its number, which is at most 65,535
-  pub numbers : (field : List ℕ) (n : ℕ) → number_in field ≡ Some n → (field ≡ decimal n) × (n ≤ 65535)
+  pub numbers : (field : List ℕ) (n : ℕ) → number_in field ≡ Some n
+      → (field ≡ decimal n) × (n ≤ 65535)
   pub numbers_back : (n : ℕ) → n ≤ 65535 → number_in (decimal n) ≡ Some n

@@ -1,7 +1,8 @@
 //! The cells that lines say, and their places in the tables.
 
 ghost use Rattle.std.specs.Prelude.{◌≡◌, ◌==◌};
-ghost use Rattle.reader.specs.Cells.{letter_in, kind_cell, op_cell, two_numbers, next_place, with_cell, count_after};
+ghost use Rattle.reader.specs.Cells.{letter_in, kind_cell, op_cell, two_numbers};
+ghost use Rattle.reader.specs.Cells.{next_place, with_cell, count_after};
 
 use crate::faults::ReadReason;
 use crate::numbers::number;
@@ -53,7 +54,8 @@ pub fn numbers(first: &[u8], second: &[u8]) -> Result<(u16, u16), ReadReason>
     number(first).zip(number(second)).ok_or(ReadReason::Number)
 }
 
-/// The front of a table: the cells that have gone into it, `MOST` at most, with the room behind them.
+/// The front of a table: the cells that have gone into it, `MOST` at most, with the room behind
+/// them.
 #[derive(Drop)]
 pub struct Front<'a, T, const MOST: usize> {
     cells: &'a mut [T],
@@ -91,7 +93,8 @@ impl<'a, T: Copy, const MOST: usize> Front<'a, T, MOST> {
     #[inline(always)]
     pub fn push(&mut self, cell: T) -> Result<(), ReadReason>
         ensures same_table { self.new.cells.ghost_name ≡ self.old.cells.ghost_name }
-        ensures answer { count_after result self.new.count ≡ next_place MOST self.old.cells.now self.old.count }
+        ensures answer { count_after result self.new.count
+            ≡ next_place MOST self.old.cells.now self.old.count }
         ensures cells { self.new.cells.now ≡ with_cell MOST self.old.cells.now self.old.count cell }
     {
         if self.count >= MOST || self.count >= self.cells.len() {

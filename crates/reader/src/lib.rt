@@ -1,4 +1,5 @@
-//! Reads a stored program: the lines of a text, told apart by section and letter, fill a type table and a term table.
+//! Reads a stored program: the lines of a text, told apart by section and letter, fill a type table
+//! and a term table.
 #![tactic(auto)]
 
 mod cells;

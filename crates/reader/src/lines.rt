@@ -19,7 +19,8 @@ pub enum Record<'a> {
 // The line, if the first field is the letter that it asks for.
 #[inline(always)]
 fn lettered<'a>(field: &[u8], letter: &[u8], line: Record<'a>) -> Record<'a>
-    ensures { said_by result ≡ (if bytes_eq field.now letter.now then said_by line.entry else other) }
+    ensures { said_by result
+        ≡ (if bytes_eq field.now letter.now then said_by line.entry else other) }
 {
     if field == letter { line } else { Record::Other }
 }

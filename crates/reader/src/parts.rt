@@ -3,7 +3,8 @@
 ghost use Rattle.std.specs.Prelude.{◌≡◌, ◌<◌, [], ◌∷◌, length, IfSome, MatchOption};
 ghost use Rattle.reader.specs.Pieces.{pieces};
 
-/// What stands before the first byte that is `mark`, and what stands after it; nothing where there is none.
+/// What stands before the first byte that is `mark`, and what stands after it; nothing where there
+/// is none.
 #[inline(always)]
 pub fn parted(text: &[u8], mark: u8) -> Option<(&[u8], &[u8])>
     ensures parts { MatchOption result

@@ -20,7 +20,8 @@ type Types<'a> = Front<'a, TypeCell, MOST_TYPE_CELLS>;
 /// A table of terms that cells go into, up to the limit of a program.
 type Terms<'a> = Front<'a, TermCell, MOST_TERM_CELLS>;
 
-// Takes in a line, whose cell goes behind the earlier ones of its table, and answers the section after it.
+// Takes in a line, whose cell goes behind the earlier ones of its table, and answers the section
+// after it.
 #[inline(always)]
 fn take_line(
     section: Section,
@@ -30,7 +31,8 @@ fn take_line(
 ) -> Result<Section, ReadReason>
     ensures same_types { types.new.cells.ghost_name ≡ types.old.cells.ghost_name }
     ensures same_terms { terms.new.cells.ghost_name ≡ terms.old.cells.ghost_name }
-    ensures answer { place_after result types.new terms.new ≡ (line_after section types.old terms.old line.now).answer }
+    ensures answer { place_after result types.new terms.new
+        ≡ (line_after section types.old terms.old line.now).answer }
     ensures types { types.new.cells.now ≡ (line_after section types.old terms.old line.now).types }
     ensures terms { terms.new.cells.now ≡ (line_after section types.old terms.old line.now).terms }
 {
@@ -65,8 +67,8 @@ fn close(
 }
 
 /// Reads a stored program to the front of two tables, and answers how many cells of each there are.
-/// A refused read leaves the cells of the lines before the one at fault, and is of the first line that
-/// a row of the sheet refuses.
+/// A refused read leaves the cells of the lines before the one at fault. That is the first line
+/// that a row of the sheet refuses.
 pub fn read(
     text: &[u8],
     types: &mut [TypeCell],

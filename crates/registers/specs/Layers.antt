@@ -1,30 +1,39 @@
--- A limit on the live handles of the register below.
+-- A cap: what a register means under a limit on its live handles, and what passes through.
 use Rattle.std.specs.Prelude.{◌≡◌, ℕ, min, cond, Ok, Err, Result, Option, Some, None, nat_le}
 use Rattle.std.proofs.Common.{arith}
 use Rattle.registers.specs.declared.fault.RegisterReason.{RegisterReason}
-use Rattle.registers.specs.declared.fault.RegisterReason.TheVariants.{NoPulses, Full, GateNotMade, WrongCount, NotLive, GivenTwice}
+use Rattle.registers.specs.declared.fault.RegisterReason.TheVariants.{NoPulses, Full}
+use Rattle.registers.specs.declared.fault.RegisterReason.TheVariants.{GateNotMade, WrongCount}
+use Rattle.registers.specs.declared.fault.RegisterReason.TheVariants.{NotLive, GivenTwice}
 use Rattle.registers.specs.declared.fault.RegisterFault.{RegisterFault}
 use Rattle.registers.specs.Depth.{deeper}
-use Rattle.registers.specs.Meaning.{Meaning, Changes, Owed, after_prepare, after_gate, after_read, after_let_go, after_clear}
+use Rattle.registers.specs.Meaning.{Meaning, Changes, Owed, after_prepare, after_gate, after_read}
+use Rattle.registers.specs.Meaning.{after_let_go, after_clear}
 
--- an answer as the layer above passes it on
+-- An answer from below, as a cap passes it on. A refusal is one layer deeper.
 abbrev pub passed_on : {A : Type 0} → Result A RegisterFault → Result A RegisterFault
 passed_on (Ok x) = Ok x
-passed_on (Err f) = Err (record { reason = f.reason; depth = deeper f.depth })
+passed_on (Err f) = Err (record f { depth = deeper f.depth })
 
--- The content of a cap: its limit, and all that the register below means.
+-- The content of a cap.
 pub record Under (C : Type 0) : Type 0 where
-  pub limit : ℕ
-  pub below : Meaning C
+  pub limit : ℕ  -- how many handles may be live
+  pub below : Meaning C  -- all that the register below means
 
 abbrev pub under : {C : Type 0} → ℕ → Meaning C → Under C
 under limit m = record { limit = limit; below = m }
 
 -- what a register means under a limit
 abbrev pub capped : {C : Type 0} → ℕ → Meaning C → Meaning (Under C)
-capped limit m = record { capacity = min limit m.capacity; makes = m.makes; live = m.live; pulses = m.pulses; content = under limit m }
+capped limit m = record {
+  capacity = min limit m.capacity;
+  makes = m.makes;
+  live = m.live;
+  pulses = m.pulses;
+  content = under limit m;
+}
 
--- each call changes what the register below means, and the limit stays
+-- Each call changes what the register below means, and the limit stays.
 abbrev pub cap_changes : {C : Type 0} → Changes C → Changes (Under C)
 cap_changes changes = record {
   prepared = λ c h bit. under c.limit (after_prepare changes c.below h bit);
@@ -34,7 +43,8 @@ cap_changes changes = record {
   cleared = λ c. under c.limit (after_clear changes c.below);
 }
 
--- a cap itself refuses for want of room where its limit is reached; all else it passes up, from the depth below
+-- What a cap passes up, by its limit and the live count. It refuses for want of room itself, where
+-- its limit is reached. All else comes from below, at a depth for each reason.
 abbrev pub cap_passes_up : ℕ → ℕ → (RegisterReason → ℕ) → RegisterReason → Option ℕ
 cap_passes_up limit count below NoPulses = Some (below NoPulses)
 cap_passes_up limit count below Full = cond (nat_le limit count) None (Some (below Full))
@@ -45,13 +55,23 @@ cap_passes_up limit count below GivenTwice = Some (below GivenTwice)
 
 -- a meaning but for its content
 abbrev pub but_content : {C : Type 0} → Meaning C → Meaning (Unit {0})
-but_content m = record { capacity = m.capacity; makes = m.makes; live = m.live; pulses = m.pulses; content = tt }
+but_content m = record {
+  capacity = m.capacity;
+  makes = m.makes;
+  live = m.live;
+  pulses = m.pulses;
+  content = tt;
+}
 
--- but for their contents, a cap over a cap is a cap of the smaller limit
+-- But for their contents, a cap over a cap is a cap of the smaller limit.
 abbrev pub CapsMerge : Type 0 → Type 0
-CapsMerge C = (inner outer : ℕ) (m : Meaning C) → but_content (capped outer (capped inner m)) ≡ but_content (capped (min outer inner) m)
+CapsMerge C =
+    (inner outer : ℕ) (m : Meaning C)
+    → but_content (capped outer (capped inner m)) ≡ but_content (capped (min outer inner) m)
 
-pub capped_owed : {C : Type 0} (limit fresh : ℕ) (m : Meaning C) → Owed m fresh → Owed (capped limit m) fresh
+-- A cap owes what the register below does.
+pub capped_owed : {C : Type 0} (limit fresh : ℕ) (m : Meaning C)
+    → Owed m fresh → Owed (capped limit m) fresh
 capped_owed limit fresh m o = record {
   small = let h = o.small in omega arith;
   wide = o.wide;

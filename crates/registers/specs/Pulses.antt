@@ -1,5 +1,6 @@
--- What the accepted calls of a tape write down: an entry for each pulse, in order, and nothing else.
-use Rattle.std.specs.Prelude.{◌≡◌, ℕ, ◌+◌, ◌%◌, Bool, List, [], ◌∷◌, ◌++◌, length, take, drop, ◌==◌, slice_index}
+-- What the accepted calls of a tape write down: an entry for each pulse, in order, no more.
+use Rattle.std.specs.Prelude.{◌≡◌, ℕ, ◌+◌, ◌%◌, Bool, List, [], ◌∷◌, ◌++◌}
+use Rattle.std.specs.Prelude.{length, take, drop, ◌==◌, slice_index}
 use Rattle.registers.specs.declared.journal.Entry.{Entry}
 use Rattle.registers.specs.declared.journal.Entry.TheVariants.{Prepare, Gate as Gated, Read}
 use Rattle.registers.specs.declared.register.Register.{Ghosts}
@@ -20,10 +21,15 @@ entries_of (clears ∷ ds) = entries_of ds
 abbrev pub spent_after : Tape → List Deed → ℕ
 spent_after r ds = (tape_reel r).spent + length (entries_of ds)
 
--- Each pulse writes its own entry, those before and behind them stay, and a read as pulse k answers whether outcome k is odd.
+-- Each pulse writes its own entry, and the entries before and behind stay. A read that is pulse k
+-- answers whether outcome k is odd.
 pub record EachPulseIsWritten (kind : Ghosts Tape) : Type 0 where
-  pub spent : (r s : Tape) (ds : List Deed) → DoesAll kind r ds s → (tape_reel s).spent ≡ spent_after r ds
+  pub spent : (r s : Tape) (ds : List Deed) → DoesAll kind r ds s
+      → (tape_reel s).spent ≡ spent_after r ds
   pub written : (r s : Tape) (ds : List Deed) → DoesAll kind r ds s
-      → (tape_reel s).entries ≡ take (tape_reel r).spent (tape_reel r).entries ++ (entries_of ds ++ drop (spent_after r ds) (tape_reel r).entries)
-  pub answered : (r s t : Tape) (ds : List Deed) (h : ℕ) (outcome : Bool) → DoesAll kind r ds s → Does kind s (reads h outcome) t
+      → (tape_reel s).entries
+      ≡ take (tape_reel r).spent (tape_reel r).entries
+      ++ (entries_of ds ++ drop (spent_after r ds) (tape_reel r).entries)
+  pub answered : (r s t : Tape) (ds : List Deed) (h : ℕ) (outcome : Bool)
+      → DoesAll kind r ds s → Does kind s (reads h outcome) t
       → outcome ≡ (slice_index (tape_reel r).outcomes (spent_after r ds) % 2 == 1)

@@ -3,7 +3,8 @@
 ghost use Rattle.std.specs.Prelude.{◌≡◌};
 ghost use Rattle.registers.specs.Meaning.{counted, after_clear};
 ghost use Rattle.registers.specs.Depth.{depths};
-ghost use Rattle.registers.specs.Layers.{Under, passed_on, capped, cap_changes, cap_passes_up, capped_owed};
+ghost use Rattle.registers.specs.Layers.{Under, passed_on, capped, cap_changes};
+ghost use Rattle.registers.specs.Layers.{cap_passes_up, capped_owed};
 
 use crate::fault::{RegisterFault, RegisterReason};
 use crate::register::Register;
@@ -20,7 +21,8 @@ impl<R: Register> Cap<R> {
     /// Clears the register and puts the limit over it.
     pub fn new(mut below: R, limit: usize) -> Cap<R>
         ensures limit { result.limit ≡ limit }
-        ensures below { R.Register.meaning result.below ≡ after_clear R.Register.changes (R.Register.meaning below) }
+        ensures below { R.Register.meaning result.below
+            ≡ after_clear R.Register.changes (R.Register.meaning below) }
         ensures lent { R.Register.lent result.below ≡ R.Register.lent below }
     {
         below.clear();
@@ -54,7 +56,8 @@ impl<R: Register> Register for Cap<R> {
 
     ghost lent = { λ s. R.Register.lent s.below };
 
-    ghost owed = { λ s. capped_owed s.limit (R.Register.fresh s.below) (R.Register.meaning s.below) (R.Register.owed s.below) };
+    ghost owed = { λ s. capped_owed s.limit (R.Register.fresh s.below)
+        (R.Register.meaning s.below) (R.Register.owed s.below) };
 
     fn capacity(&self) -> usize {
         self.below.capacity().min(self.limit)

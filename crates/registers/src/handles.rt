@@ -1,8 +1,9 @@
 //! The live handles of a register that is no layer, and which handle is answered next.
 
-ghost use Rattle.std.specs.Prelude.{◌≡◌, ◌+◌, ◌≤◌, true, false, length, take, MatchResult, slice_index_or};
-ghost use Rattle.registers.specs.Meaning.{counted, none_live};
-ghost use Rattle.registers.specs.Answers.{prepare_answer, gate_answer, read_allowed, let_go_answer, all_live};
+ghost use Rattle.std.specs.Prelude.{◌≡◌, ◌+◌, ◌≤◌, true, false, length, take, MatchResult};
+ghost use Rattle.registers.specs.Meaning.{counted, is_live, none_live};
+ghost use Rattle.registers.specs.Answers.{prepare_answer, gate_answer};
+ghost use Rattle.registers.specs.Answers.{read_allowed, let_go_answer, all_live};
 ghost use Rattle.registers.specs.Handles.{places, room, Marked, next_handle, bare, at_top};
 
 use crate::fault::{RegisterFault, RegisterReason};
@@ -38,7 +39,7 @@ impl Handles {
 
     /// Whether a handle is live.
     pub fn is_live(&self, handle: u8) -> bool
-        ensures { result ≡ slice_index_or (places self.now.live) handle false }
+        ensures { result ≡ is_live (places self.now.live) handle }
     {
         holds(&self.live, handle)
     }
@@ -84,7 +85,8 @@ impl Handles {
 
     /// Makes the next handle live and answers it, if a pulse is left and there is room.
     pub fn prepare(&mut self, pulses: u64) -> Result<u8, RegisterFault>
-        ensures answer { result ≡ prepare_answer (bare self.old (λ _. true) pulses) at_top (next_handle self.old) }
+        ensures answer { result
+            ≡ prepare_answer (bare self.old (λ _. true) pulses) at_top (next_handle self.old) }
         ensures state { MatchResult result
             (λ h. Marked self.old self.new h true (h + 1))
             (λ _. self.new ≡ self.old) }
@@ -136,7 +138,8 @@ impl Handles {
 
     /// Takes every handle out; the search for the next one goes on where it was.
     pub fn clear(&mut self)
-        ensures { self.new ≡ record { live = none_live; capacity = self.old.capacity; next = self.old.next } }
+        ensures { self.new
+            ≡ record { live = none_live; capacity = self.old.capacity; next = self.old.next } }
     {
         self.live = [false; HANDLES];
     }

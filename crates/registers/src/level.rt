@@ -5,7 +5,8 @@ ghost use Rattle.registers.specs.Handles.{next_handle};
 ghost use Rattle.registers.specs.Depth.{nothing_passed_up};
 ghost use Rattle.registers.specs.Free.{handles_owed};
 ghost use Rattle.registers.specs.Bits.{Bits, BitsBecome, flipped, exchanged, bits_gated};
-ghost use Rattle.registers.specs.Bits.{level_makes, level_changes, level_bits, level_outcome, level_meaning, new_level};
+ghost use Rattle.registers.specs.Bits.{level_makes, level_changes, level_bits, level_outcome};
+ghost use Rattle.registers.specs.Bits.{level_meaning, new_level};
 
 use crate::fault::RegisterFault;
 use crate::handles::Handles;

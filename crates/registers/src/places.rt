@@ -1,6 +1,7 @@
 //! Tables of truth values by handle, and lists of handles.
 
-ghost use Rattle.std.specs.Prelude.{◌≡◌, ◌<◌, ◌≤◌, false, not, length, position, MatchOption, slice_index_or, slice_set};
+ghost use Rattle.std.specs.Prelude.{◌≡◌, ◌<◌, ◌≤◌, false, not, length, position, MatchOption};
+ghost use Rattle.std.specs.Prelude.{slice_index_or, slice_set};
 ghost use Rattle.registers.specs.Meaning.{counted};
 ghost use Rattle.registers.specs.Answers.{distinct};
 ghost use Rattle.registers.specs.Handles.{free_from};

@@ -1,8 +1,9 @@
 //! The calls of a register of qubits, with its meaning as ghost members.
 
-ghost use Rattle.std.specs.Prelude.{◌≡◌, ℕ, Bool, false, List, [], Option, MatchResult, slice_index_or};
+ghost use Rattle.std.specs.Prelude.{◌≡◌, ℕ, Bool, false, List, [], Option, MatchResult};
 ghost use Rattle.std.specs.Borrow.{GName};
-ghost use Rattle.registers.specs.Meaning.{Meaning, Changes, Owed, counted, after_prepare, after_gate, after_read, after_let_go, after_clear};
+ghost use Rattle.registers.specs.Meaning.{Meaning, Changes, Owed, counted, is_live, after_prepare};
+ghost use Rattle.registers.specs.Meaning.{after_gate, after_read, after_let_go, after_clear};
 ghost use Rattle.registers.specs.Depth.{depths};
 ghost use Rattle.registers.specs.Answers.{prepare_answer, gate_answer, read_answer, let_go_answer};
 ghost use Rattle.registers.specs.declared.fault.RegisterReason.{RegisterReason};
@@ -10,29 +11,29 @@ ghost use Rattle.registers.specs.declared.fault.RegisterReason.{RegisterReason};
 use crate::fault::RegisterFault;
 use calculus::Gate;
 
-/// A register of qubits: every call answers by the register's meaning and changes it as its kind says,
-/// and a question or a refusal changes nothing.
+/// A register of qubits. Every call answers by the register's meaning, and changes it as its kind
+/// says. A question or a refusal changes nothing.
 pub trait Register {
-    // What the qubits hold is of each kind's own type, changed by each call as the kind says.
+    // What the qubits hold: a type of each kind's own. Each call changes it as the kind says.
     ghost Content: { Type 0 };
 
     ghost changes: { Changes Content };
 
     ghost meaning: { Self → Meaning Content };
 
-    // The two free answers: the handle of the next prepare, and what a read of a handle gives.
+    // Two answers are each register's own: the handle of the next prepare, and what a read gives.
     ghost fresh: { Self → ℕ };
 
     ghost outcome: { Self → ℕ → Bool };
 
-    // Of each reason of refusal the depth of the fault from below that is passed up for it, and none where the
+    // For each reason, the depth of the fault from below that is passed up. It is none where the
     // refusal is the register's own.
     ghost passed_up: { Self → RegisterReason → Option ℕ };
 
     ghost owed: { (s : Self) → Owed (meaning s) (fresh s) };
 
-    // The tables that it was lent and holds by `&mut`, by their ghost names. No call exchanges them, so their owner
-    // knows what they hold when the register is gone.
+    // The tables that it was lent and holds by `&mut`, by their ghost names. No call exchanges
+    // them. So their owner knows what they hold when the register is gone.
     ghost lent: { Self → List GName } = { λ _. [] };
 
     /// How many qubits may be live at once, at most 32.
@@ -45,7 +46,7 @@ pub trait Register {
 
     /// Whether the handle names a live qubit; from 32 on none does.
     fn is_live(&self, handle: u8) -> bool
-        ensures { result ≡ slice_index_or (meaning self.now).live handle false };
+        ensures { result ≡ is_live (meaning self.now).live handle };
 
     /// How many qubits are live.
     fn live_count(&self) -> usize
@@ -57,7 +58,8 @@ pub trait Register {
 
     /// Prepares a qubit at the bit and answers its handle, for one pulse.
     fn prepare(&mut self, bit: bool) -> Result<u8, RegisterFault>
-        ensures answer { result ≡ prepare_answer (meaning self.old) (depths (passed_up self.old)) (fresh self.old) }
+        ensures answer { result
+            ≡ prepare_answer (meaning self.old) (depths (passed_up self.old)) (fresh self.old) }
         ensures state { MatchResult result
             (λ h. meaning self.new ≡ after_prepare changes (meaning self.old) h bit)
             (λ _. self.new ≡ self.old) }
@@ -65,7 +67,8 @@ pub trait Register {
 
     /// Applies a gate to the qubits, in their order, for one pulse.
     fn gate(&mut self, gate: Gate, on: &[u8]) -> Result<(), RegisterFault>
-        ensures answer { result ≡ gate_answer (meaning self.old) (depths (passed_up self.old)) gate on.now }
+        ensures answer { result
+            ≡ gate_answer (meaning self.old) (depths (passed_up self.old)) gate on.now }
         ensures state { MatchResult result
             (λ _. meaning self.new ≡ after_gate changes (meaning self.old) gate on.now)
             (λ _. self.new ≡ self.old) }
@@ -73,7 +76,9 @@ pub trait Register {
 
     /// Reads a qubit, which stays live, for one pulse.
     fn read(&mut self, handle: u8) -> Result<bool, RegisterFault>
-        ensures answer { result ≡ read_answer (meaning self.old) (depths (passed_up self.old)) handle (outcome self.old handle) }
+        ensures answer { result
+            ≡ read_answer (meaning self.old) (depths (passed_up self.old))
+            handle (outcome self.old handle) }
         ensures state { MatchResult result
             (λ b. meaning self.new ≡ after_read changes (meaning self.old) handle b)
             (λ _. self.new ≡ self.old) }
@@ -81,7 +86,8 @@ pub trait Register {
 
     /// Lets go of a qubit, for no pulse.
     fn let_go(&mut self, handle: u8) -> Result<(), RegisterFault>
-        ensures answer { result ≡ let_go_answer (meaning self.old) (depths (passed_up self.old)) handle }
+        ensures answer { result
+            ≡ let_go_answer (meaning self.old) (depths (passed_up self.old)) handle }
         ensures state { MatchResult result
             (λ _. meaning self.new ≡ after_let_go changes (meaning self.old) handle)
             (λ _. self.new ≡ self.old) }

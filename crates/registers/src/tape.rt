@@ -4,7 +4,8 @@ ghost use Rattle.std.specs.Prelude.{◌≡◌, ◌<◌, [], ◌∷◌, length};
 ghost use Rattle.registers.specs.Handles.{next_handle};
 ghost use Rattle.registers.specs.Depth.{nothing_passed_up};
 ghost use Rattle.registers.specs.Free.{handles_owed};
-ghost use Rattle.registers.specs.Journal.{Reel, filled, pulses_left, outcome_next, tape_changes, tape_reel, tape_makes, tape_meaning, new_tape};
+ghost use Rattle.registers.specs.Journal.{Reel, filled, pulses_left, outcome_next, tape_changes};
+ghost use Rattle.registers.specs.Journal.{tape_reel, tape_makes, tape_meaning, new_tape};
 
 use crate::fault::RegisterFault;
 use crate::handles::Handles;
@@ -23,7 +24,8 @@ pub struct Tape<'a> {
 }
 
 impl<'a> Tape<'a> {
-    /// No live qubit; as many pulses as the shorter of outcomes and journal; a capacity above 32 is 32.
+    /// No live qubit, and as many pulses as the shorter of outcomes and journal. A capacity above
+    /// 32 is 32.
     pub fn new(capacity: usize, outcomes: &'a [u8], journal: &'a mut [Entry]) -> Tape<'a>
         ensures meaning { tape_meaning result ≡ new_tape capacity outcomes.now journal.old }
         ensures same_journal { result.journal.ghost_name ≡ journal.entry.ghost_name }
@@ -36,7 +38,8 @@ impl<'a> Tape<'a> {
         }
     }
 
-    /// The journal as it stands: entry k says what pulse k did, and those of pulses to come are as they were handed.
+    /// The journal as it stands. Entry k says what pulse k did. The entries of pulses to come are
+    /// as they were handed.
     pub fn journal(&self) -> &[Entry]
         ensures { result.now ≡ (tape_reel self.now).entries }
     {
@@ -48,7 +51,8 @@ impl<'a> Tape<'a> {
         requires { self.old.spent < length self.old.journal.now }
         ensures handles { self.new.handles ≡ self.old.handles }
         ensures same_journal { self.new.journal.ghost_name ≡ self.old.journal.ghost_name }
-        ensures reel { tape_reel self.new ≡ filled (tape_reel self.old) entry self.old.handles.next }
+        ensures reel { tape_reel self.new
+            ≡ filled (tape_reel self.old) entry self.old.handles.next }
     {
         self.journal[self.spent] = entry;
         self.spent += 1;
@@ -70,7 +74,8 @@ impl<'a> Register for Tape<'a> {
 
     ghost lent = { λ s. s.journal.ghost_name ∷ [] };
 
-    ghost owed = { λ s. handles_owed s.handles tape_makes (pulses_left (tape_reel s)) (tape_reel s) };
+    ghost owed = { λ s. handles_owed s.handles tape_makes
+        (pulses_left (tape_reel s)) (tape_reel s) };
 
     fn capacity(&self) -> usize {
         self.handles.capacity()

@@ -12,10 +12,13 @@ call_of (prepares b h) = Some (to_prepare b)
 call_of (reads h b) = Some (to_read h)
 call_of (applies u hs) = Some (to_gate u hs)
 
--- The calls of a term's next step: what its rule asks for, and the letting go of each qubit that is named no more.
+-- The calls of a term's next step. They are what its rule asks for, and the letting go of each
+-- qubit that is named no more.
 pub data Calls (m : Running) : Call → Type 0 where
-  asks : {e : Effect} {n : Running} {call : Call} → Reduces m e n → call_of e ≡ Some call → Calls m call
-  drops : {e : Effect} {n : Running} {h : ℕ} → Reduces m e n → Names m h → (Names n h → ⊥) → Calls m (to_let_go h)
+  asks : {e : Effect} {n : Running} {call : Call}
+      → Reduces m e n → call_of e ≡ Some call → Calls m call
+  drops : {e : Effect} {n : Running} {h : ℕ}
+      → Reduces m e n → Names m h → (Names n h → ⊥) → Calls m (to_let_go h)
 
 abbrev pub SpendsPulse : Running → Type 0
 SpendsPulse m = (call : Call) × Calls m call × Spends call

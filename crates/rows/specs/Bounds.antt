@@ -26,4 +26,6 @@ pub record Bounded {C : Type 0} (p : Place C) : Type 0 where
   pub fits : FitsAt p.loaded p.register
 
 abbrev pub EveryPlaceIsBounded : Type 0 → Type 0
-EveryPlaceIsBounded C = (changes : Changes C) (p : Place C) (xs : List Member) (ps : List (Place C)) → New changes p → Row changes p xs ps → AtEach Bounded ps
+EveryPlaceIsBounded C =
+    (changes : Changes C) (p : Place C) (xs : List Member) (ps : List (Place C))
+    → New changes p → Row changes p xs ps → AtEach Bounded ps

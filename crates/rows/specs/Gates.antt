@@ -1,8 +1,10 @@
--- The gates that a term names, cell by cell in tree order, and the first that a register does not make.
+-- The gates that a term names, cell by cell in tree order, and the first that a register does not
+-- make.
 use Rattle.std.specs.Prelude.{◌≡◌, ℕ, ◌<◌, Bool, false, List, [], ◌∷◌, ◌++◌, Some, None, Option}
 use Rattle.std.specs.List.{slice_get}
 use Rattle.calculus.specs.declared.gates.Gate.{Gate}
-use Rattle.calculus.specs.Terms.{Const, bit_of, meas, new, gate, Term, var, const, star, lam, app, pair, if_then_else, let_pair}
+use Rattle.calculus.specs.Terms.{Const, bit_of, meas, new, gate, Term, var, const, star, lam, app}
+use Rattle.calculus.specs.Terms.{pair, if_then_else, let_pair}
 
 abbrev pub gate_named : Const → Option Gate
 gate_named (bit_of b) = None
@@ -18,7 +20,8 @@ gates_by_cell (star c) = None ∷ []
 gates_by_cell (lam c m) = None ∷ gates_by_cell m
 gates_by_cell (app c m n) = None ∷ (gates_by_cell m ++ gates_by_cell n)
 gates_by_cell (pair c m n) = None ∷ (gates_by_cell m ++ gates_by_cell n)
-gates_by_cell (if_then_else c p m n) = None ∷ (gates_by_cell p ++ (gates_by_cell m ++ gates_by_cell n))
+gates_by_cell (if_then_else c p m n) =
+    None ∷ (gates_by_cell p ++ (gates_by_cell m ++ gates_by_cell n))
 gates_by_cell (let_pair c m n) = None ∷ (gates_by_cell m ++ gates_by_cell n)
 
 module _ {C : Type 0} (makes : Gate → Bool) (m : Term C) where

@@ -1,16 +1,19 @@
 -- The members of a row: the calls of a controller, with what each is given.
 use Rattle.std.specs.Prelude.{ℕ, ◌≤◌}
+use Rattle.calculus.specs.declared.limits.TheConstants.{MOST_TERM_CELLS}
 use Rattle.calculus.specs.declared.gates.Gate.{Gate}
 use Rattle.calculus.specs.Types.{Ty}
-use Rattle.calculus.specs.Terms.{gate, Term, const, lam, app, pair, if_then_else, let_pair, claim_of, size}
+use Rattle.calculus.specs.Terms.{gate, Term, const, lam, app, pair, if_then_else, let_pair}
+use Rattle.calculus.specs.Terms.{claim_of, size}
 use Rattle.calculus.specs.Contexts.{empty}
 use Rattle.calculus.specs.Typing.{Derives, Claimed}
 
--- An accepted program: a term that has a derivation with its claims, and is no longer than a program may be.
+-- An accepted program: a term that has a derivation with its claims. It is no longer than a program
+-- may be.
 pub record Program : Type 0 where
   pub term : Term Ty
   pub accepted : Derives Claimed empty term (claim_of term)
-  pub short : size term ≤ 512
+  pub short : size term ≤ MOST_TERM_CELLS
 
 -- A table is given by its length.
 pub data Member : Type 0 where

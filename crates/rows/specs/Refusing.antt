@@ -1,5 +1,7 @@
--- The sheet of the controller's refusals: one constructor to a row, and the register's rows from its own sheet.
+-- The sheet of the controller's refusals: one constructor to a row. The register's rows are from
+-- its own sheet.
 use Rattle.std.specs.Prelude.{◌≡◌, ℕ, ◌<◌, false, ◌⊎◌, length, Some, None, Option}
+use Rattle.calculus.specs.declared.limits.TheConstants.{MOST_RUNNING_CELLS}
 use Rattle.calculus.specs.declared.gates.Gate.{Gate}
 use Rattle.calculus.specs.Types.{Ty}
 use Rattle.calculus.specs.Terms.{Running, size}
@@ -14,7 +16,7 @@ use Rattle.rows.specs.Asking.{Calls, Overflows}
 
 -- the cells that a running term may have, and that a work table has to have
 abbrev pub most_cells : ℕ
-most_cells = 1024
+most_cells = MOST_RUNNING_CELLS
 
 module _ {C : Type 0} (p : Place C) where
   abbrev pub Runs : Running → Ty → Type 0
@@ -27,16 +29,22 @@ module _ {C : Type 0} (p : Place C) where
     nothing_to_collect : {t k : ℕ} → p.loaded ≡ None → Holds 31 (collect t k)
     nothing_to_abandon : p.loaded ≡ None → Holds 31 abandon
     already_loaded : {x : Program} {m : Running} {a : Ty} → Runs m a → Holds 32 (load x)
-    gate_not_made : {x : Program} (u : Gate) → NamesGate u x.term → p.register.makes u ≡ false → Holds 33 (load x)
+    gate_not_made : {x : Program} (u : Gate)
+        → NamesGate u x.term → p.register.makes u ≡ false → Holds 33 (load x)
     short_to_step : {w : ℕ} → w < most_cells → Holds 34 (step w)
     short_to_run : {b w : ℕ} → w < most_cells → Holds 34 (run b w)
     step_of_value : {w : ℕ} {m : Running} {a : Ty} → Runs m a → Value m → Holds 35 (step w)
-    no_rule : {w : ℕ} {m : Running} {a : Ty} → Runs m a → (Value m → ⊥) → ((e : Effect) (n : Running) → Reduces m e n → ⊥) → Holds 36 (step w)
-    too_long : {w : ℕ} {m : Running} {a : Ty} → Runs m a → Overflows most_cells m → Holds 37 (step w)
-    no_value_yet : {t k : ℕ} {m : Running} {a : Ty} → Runs m a → (Value m → ⊥) → Holds 38 (collect t k)
-    short_to_collect : {t k : ℕ} {m : Running} {a : Ty} → Runs m a → (t < size m) ⊎ (k < length (type_cells a)) → Holds 39 (collect t k)
-    register_refuses : {w : ℕ} {m : Running} {a : Ty} {call : Call} (reason : RegisterReason) → Runs m a → Calls m call
-        → RegisterHolds p.register reason call → Holds (number_of reason) (step w)
+    no_rule : {w : ℕ} {m : Running} {a : Ty} → Runs m a → (Value m → ⊥)
+        → ((e : Effect) (n : Running) → Reduces m e n → ⊥) → Holds 36 (step w)
+    too_long : {w : ℕ} {m : Running} {a : Ty} → Runs m a
+        → Overflows most_cells m → Holds 37 (step w)
+    no_value_yet : {t k : ℕ} {m : Running} {a : Ty} → Runs m a
+        → (Value m → ⊥) → Holds 38 (collect t k)
+    short_to_collect : {t k : ℕ} {m : Running} {a : Ty} → Runs m a
+        → (t < size m) ⊎ (k < length (type_cells a)) → Holds 39 (collect t k)
+    register_refuses : {w : ℕ} {m : Running} {a : Ty} {call : Call} (reason : RegisterReason)
+        → Runs m a → Calls m call → RegisterHolds p.register reason call
+        → Holds (number_of reason) (step w)
 
   -- A member is refused where a row holds for it.
   abbrev pub Refused : Member → Type 0

@@ -8,7 +8,8 @@ use Rattle.rows.specs.Doing.{Does}
 module _ {C : Type 0} (changes : Changes C) where
   pub data Row : Place C → List Member → List (Place C) → Type 0 where
     row_end : {p : Place C} → Row p [] (p ∷ [])
-    row_next : {p q : Place C} {x : Member} {xs : List Member} {ps : List (Place C)} → Does changes p x q → Row q xs ps → Row p (x ∷ xs) (p ∷ ps)
+    row_next : {p q : Place C} {x : Member} {xs : List Member} {ps : List (Place C)}
+        → Does changes p x q → Row q xs ps → Row p (x ∷ xs) (p ∷ ps)
 
   -- the places that rows from p lead to
   pub data Reached (p : Place C) : Place C → Type 0 where

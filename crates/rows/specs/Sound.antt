@@ -11,7 +11,8 @@ use Rattle.rows.specs.Asking.{SpendsPulse, PreparesQubit, Overflows}
 use Rattle.rows.specs.Refusing.{most_cells, Refused}
 use Rattle.rows.specs.Rows.{Row, AtEach}
 
--- The live handles are exactly those that the term names, the two counts are equal, and no way through the branches names one twice.
+-- The live handles are exactly those that the term names, and the two counts are equal. No way
+-- through the branches names one twice.
 pub record LiveAreNamed {C : Type 0} (m : Running) (r : Meaning C) : Type 0 where
   pub same : (h : ℕ) → Live r h ↔ Names m h
   pub named : List ℕ
@@ -20,11 +21,16 @@ pub record LiveAreNamed {C : Type 0} (m : Running) (r : Meaning C) : Type 0 wher
   pub counts : counted r.live ≡ length named
   pub no_way_twice : (hs : List ℕ) → Way m hs → Distinct hs
 
--- Where the term is no value and the work table is long enough, a step is refused exactly if the next term has too many cells,
--- or the rule spends a pulse and none is left, or it prepares and the live count is at capacity.
+-- Let the term be no value, and the work table long enough. Then a step is refused exactly if the
+-- next term has too many cells, or the rule spends a pulse and none is left, or it prepares and the
+-- live count is at capacity.
 abbrev pub OnlyWantStops : {C : Type 0} → Running → Place C → Type 0
-OnlyWantStops m p = (w : ℕ) → most_cells ≤ w → (Value m → ⊥)
-    → Refused p (step w) ↔ (Overflows most_cells m ⊎ ((SpendsPulse m × (p.register.pulses ≡ 0)) ⊎ (PreparesQubit m × (p.register.capacity ≤ counted p.register.live))))
+OnlyWantStops m p =
+    (w : ℕ) → most_cells ≤ w → (Value m → ⊥)
+    → Refused p (step w)
+    ↔ (Overflows most_cells m
+    ⊎ ((SpendsPulse m × (p.register.pulses ≡ 0))
+    ⊎ (PreparesQubit m × (p.register.capacity ≤ counted p.register.live))))
 
 abbrev pub NoneLive : {C : Type 0} → Meaning C → Type 0
 NoneLive r = ((h : ℕ) → Live r h → ⊥) × (counted r.live ≡ 0)
@@ -38,4 +44,6 @@ Sound p = SoundAt p.loaded p
 
 -- From a new controller over any register, whatever the row, every place is sound.
 abbrev pub EveryPlaceIsSound : Type 0 → Type 0
-EveryPlaceIsSound C = (changes : Changes C) (p : Place C) (xs : List Member) (ps : List (Place C)) → New changes p → Row changes p xs ps → AtEach Sound ps
+EveryPlaceIsSound C =
+    (changes : Changes C) (p : Place C) (xs : List Member) (ps : List (Place C))
+    → New changes p → Row changes p xs ps → AtEach Sound ps

@@ -4,7 +4,8 @@ use Rattle.calculus.specs.Terms.{Running}
 use Rattle.calculus.specs.Reduction.{Effect, silent, prepares, reads, applies, Reduces}
 use Rattle.calculus.specs.Names.{Names, In, Rising}
 use Rattle.registers.specs.declared.fault.RegisterReason.{RegisterReason}
-use Rattle.registers.specs.Meaning.{Meaning, Changes, Fresh, after_prepare, after_gate, after_read, after_let_go}
+use Rattle.registers.specs.Meaning.{Meaning, Changes, Fresh, after_prepare}
+use Rattle.registers.specs.Meaning.{after_gate, after_read, after_let_go}
 use Rattle.registers.specs.Sheet.{Call, to_prepare, to_gate, to_read, Holds}
 
 -- no row of the register's sheet holds for the call

@@ -1,5 +1,6 @@
-//! Rows of calls of a controller over any register: what each call does, and what holds at every place. Each function stands for a
-//! theorem: its contract is the theorem's statement, for every kind of register with contents of its type parameter.
+//! Rows of calls of a controller over any register: what each call does, and what holds at every
+//! place. Each function stands for a theorem: its contract is the theorem's statement, for every
+//! kind of register with contents of its type parameter.
 #![tactic(auto)]
 
 ghost use Rattle.rows.specs.Sound.{EveryPlaceIsSound};
@@ -8,8 +9,9 @@ ghost use Rattle.rows.specs.Making.{EveryRowIsMade, EveryAnswerIsServed, StepsAr
 ghost use Rattle.rows.specs.Sample.{SampleRow};
 ghost use Rattle.rows.specs.Unsound.{UnsoundPlaces};
 
-/// From a new controller, whatever the row, every place is sound: the live qubits are exactly those that the running term names,
-/// the term has its loaded type, and a step of what is no value is refused for want of cells, of a pulse or of room alone.
+/// From a new controller, whatever the row, every place is sound: the live qubits are exactly those
+/// that the running term names, the term has its loaded type, and a step of what is no value is
+/// refused for want of cells, of a pulse or of room alone.
 pub fn every_place_is_sound<Content>()
     ensures { EveryPlaceIsSound Content }
 {}
@@ -34,8 +36,8 @@ pub fn steps_are_exact<Content>()
     ensures { StepsAreExact Content }
 {}
 
-/// A row of four members goes through the five places that it should, and some places are not sound: each claim is missed by
-/// one at which the others hold.
+/// A row of four members goes through the five places that it should, and some places are not
+/// sound: each claim is missed by one at which the others hold.
 pub fn sample_row_is_made()
     ensures row { SampleRow }
     ensures unsound { UnsoundPlaces }

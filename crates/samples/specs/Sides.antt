@@ -13,7 +13,8 @@ abbrev pub IsBeside : Side → Ty → Ty → Type 0
 IsBeside Below k a = Sub k a
 IsBeside Above k a = Sub a k
 
--- So many marks may stand before a type on that side of one with m marks: a subtype has some if its supertype has.
+-- So many marks may stand before a type on that side of one with m marks: a subtype has some if its
+-- supertype has.
 abbrev pub MarksBeside : Side → ℕ → ℕ → Type 0
 MarksBeside Below n m = 0 < m → 0 < n
 MarksBeside Above n m = 0 < n → 0 < m

@@ -81,7 +81,8 @@ fn any_marks(random: &mut Random) -> usize
     }
 }
 
-/// A type with closed values, so many levels deep at most; where it may not hold qubits, its values may be marked.
+/// A type with closed values, so many levels deep at most. Where it may not hold qubits, its values
+/// may be marked.
 pub fn any_kind(
     random: &mut Random,
     heap: Global,

@@ -102,7 +102,8 @@ fn repeat_line(
     Ok(all)
 }
 
-// Puts bytes before the first digit from a place on, or there if none follows, so that a number is malformed or another.
+// Puts bytes before the first digit from a place on, or there if none follows, so that a number is
+// malformed or another.
 fn change_number(heap: Global, random: &mut Random, text: &[u8]) -> Result<Vec<u8>, AllocError> {
     let (skipped, rest) = text.split_at(random.below(text.len()));
     let digit = rest.iter().position(|b| b.is_ascii_digit()).unwrap_or(0);

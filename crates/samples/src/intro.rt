@@ -23,8 +23,8 @@ impl<'r> Maker<'r> {
             .find(&FUNCTIONS[..GATE_COUNT], |gate| gate.takes(heap, kind))
     }
 
-    // A function of an argument and a body of types: where it is marked, the variables that may be used once only are out of
-    // reach until its end.
+    // A function of an argument and a body of types. Where it is marked, the variables that may be
+    // used once only are out of reach until its end.
     fn lambda(&mut self, kind: &Kind, argument: &Kind, body: &Kind) -> Result<(), AllocError> {
         self.emit('l', 0, kind)?;
         if kind.marks > 0 {

@@ -34,10 +34,12 @@ pub(crate) struct Maker<'r> {
     pub(crate) heap: Global,
     pub(crate) random: &'r mut Random,
     pub(crate) draft: Draft,
-    // The types of the variables in scope, the outermost first, and the levels of those that are spent.
+    // The types of the variables in scope, the outermost first, and the levels of those that are
+    // spent.
     pub(crate) scope: Vec<Kind>,
     pub(crate) spent: BTreeSet<usize>,
-    // Of each open condition what was spent before its branches, and from the second one on what its first branch left spent.
+    // Of each open condition what was spent before its branches, and from the second one on what
+    // its first branch left spent.
     pub(crate) forks: Vec<BTreeSet<usize>>,
     // The next task stands last.
     pub(crate) tasks: Vec<Task>,
@@ -122,7 +124,8 @@ impl<'r> Maker<'r> {
         self.due(&function)
     }
 
-    // A term of a type through a function whose variable is of a type below, or above where that may be.
+    // A term of a type through a function whose variable is of a type below, or above where that
+    // may be.
     fn pass(&mut self, kind: &Kind) -> Result<(), AllocError> {
         let is_above = self.is_careless && self.random.chance(30);
         let side = if is_above { Side::Above } else { Side::Below };
@@ -216,8 +219,8 @@ impl<'r> Maker<'r> {
     }
 }
 
-/// A program whose claims follow the typing rules; a careless one may use a variable more often than it may, or at a type that
-/// its own is not below.
+/// A program whose claims follow the typing rules. A careless one may use a variable more often
+/// than it may, or at a type that its own is not below.
 pub fn any_program(
     heap: Global,
     random: &mut Random,

@@ -48,7 +48,8 @@ impl Random {
         choices[self.below(choices.len())]
     }
 
-    /// The first entry of a table that passes a test, from a place drawn at random on and then from the front.
+    /// The first entry of a table that passes a test, from a place drawn at random on and then from
+    /// the front.
     pub(crate) fn find<T: Copy, F: Fn(T) -> Result<bool, AllocError>>(
         &mut self,
         table: &[T],

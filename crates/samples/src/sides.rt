@@ -27,7 +27,8 @@ impl Side {
     }
 }
 
-// Whether there are values of the type that may be copied: none of one that holds a qubit in it or in a component.
+// Whether there are values of the type that may be copied: none of one that holds a qubit in it or
+// in a component.
 fn is_copied(kind: &Kind) -> bool {
     match &kind.head {
         Head::Qubit => false,
@@ -36,7 +37,8 @@ fn is_copied(kind: &Kind) -> bool {
     }
 }
 
-// How many marks may lead a type on a side of another, so that there are values of it where there are of the other.
+// How many marks may lead a type on a side of another, so that there are values of it where there
+// are of the other.
 fn marks_beside(random: &mut Random, side: Side, kind: &Kind) -> usize
     ensures { MarksBeside side result kind.now.marks }
 {

@@ -5,7 +5,12 @@ use Rattle.second.specs.declared.halt.Fault.{Fault}
 use Rattle.second.specs.declared.halt.Halt.{Halt}
 use Rattle.second.specs.declared.halt.Halt.TheVariants.{Memory, Fault as FaultHalt}
 use Rattle.second.specs.declared.halt.Reason.{Reason}
-use Rattle.second.specs.declared.halt.Reason.TheVariants.{Header, Line, Number, FullTable, End, TooManyCells, BadCell, NotWhole, ClaimOutside, TooDeep, NoBinder, WrongClaim, UsedTwice, Captures, NoRule, TooLong, NoPulses, Full, NotLive, GivenTwice}
+use Rattle.second.specs.declared.halt.Reason.TheVariants.{Header, Line, Number, FullTable, End}
+use Rattle.second.specs.declared.halt.Reason.TheVariants.{TooManyCells, BadCell, NotWhole}
+use Rattle.second.specs.declared.halt.Reason.TheVariants.{ClaimOutside, TooDeep, NoBinder}
+use Rattle.second.specs.declared.halt.Reason.TheVariants.{WrongClaim, UsedTwice, Captures}
+use Rattle.second.specs.declared.halt.Reason.TheVariants.{NoRule, TooLong}
+use Rattle.second.specs.declared.halt.Reason.TheVariants.{NoPulses, Full, NotLive, GivenTwice}
 
 -- the number that stands for a reason
 abbrev pub number_of : Reason → ℕ

@@ -1,13 +1,17 @@
 -- Running terms that are values: qubits, pairs of them, and what rule a value allows.
 use Rattle.std.specs.Prelude.{ℕ, Bool, cond, Some, None, Option, nat_lt}
 use Rattle.second.specs.declared.nodes.Constant.{Constant as Leaf}
-use Rattle.second.specs.declared.nodes.Constant.TheVariants.{Zero, One, Measure, New, Unit, Gate, Qubit}
+use Rattle.second.specs.declared.nodes.Constant.TheVariants.{Zero, One, Measure, New, Unit}
+use Rattle.second.specs.declared.nodes.Constant.TheVariants.{Gate, Qubit}
 use Rattle.second.specs.declared.terms.Term.{Term}
-use Rattle.second.specs.declared.terms.Term.TheVariants.{Variable, Constant, Lambda', Apply', Pair', Split', Choose'}
+use Rattle.second.specs.declared.terms.Term.TheVariants.{Variable, Constant}
+use Rattle.second.specs.declared.terms.Term.TheVariants.{Lambda', Apply', Pair', Split', Choose'}
 use Rattle.second.specs.declared.seeks.SecondRule.{SecondRule}
-use Rattle.second.specs.declared.seeks.SecondRule.TheVariants.{Function, Then, Else, Prepare, Read, Gates, Pair as pair_rule}
+use Rattle.second.specs.declared.seeks.SecondRule.TheVariants.{Function, Pair as pair_rule}
+use Rattle.second.specs.declared.seeks.SecondRule.TheVariants.{Then, Else, Prepare, Read, Gates}
 use Rattle.second.specs.declared.tape.Operands.{Operands}
-use Rattle.second.specs.declared.tape.Operands.TheVariants.{One as one_operand, Two as two_operands, Three as three_operands}
+use Rattle.second.specs.declared.tape.Operands.TheVariants.{One as one_operand, Two as two_operands}
+use Rattle.second.specs.declared.tape.Operands.TheVariants.{Three as three_operands}
 
 abbrev pub leaf_qubit : Leaf → Option ℕ
 leaf_qubit Zero = None
@@ -66,7 +70,8 @@ three_qubits_of (Choose' p a q b r c) = None
 
 -- the qubits of a term, as many as a gate takes: one below 5, two below 7, else one and a pair
 abbrev pub operands_of : ℕ → Term → Option Operands
-operands_of g t = cond (nat_lt g 5) (one_of (qubit_of t)) (cond (nat_lt g 7) (two_of (two_qubits_of t)) (three_of (three_qubits_of t)))
+operands_of g t = cond (nat_lt g 5) (one_of (qubit_of t))
+    (cond (nat_lt g 7) (two_of (two_qubits_of t)) (three_of (three_qubits_of t)))
 
 -- the constant of a bit
 abbrev pub leaf_bit : Bool → Leaf

@@ -1,6 +1,7 @@
 //! The typing rules on trees: the first fault in tree order, and which variables a tree uses.
 
-ghost use Rattle.std.specs.Prelude.{◌≡◌, ◌+◌, ◌<◌, ◌≤◌, length, [], Ok, Err, vec_len, IfOk, MatchResult};
+ghost use Rattle.std.specs.Prelude.{◌≡◌, ◌+◌, ◌<◌, ◌≤◌, length, [], vec_len};
+ghost use Rattle.std.specs.Prelude.{Ok, Err, IfOk, MatchResult};
 ghost use Rattle.second.specs.Reasons.{fault, halt};
 ghost use Rattle.second.specs.declared.halt.Reason.TheVariants.{ClaimOutside, NoBinder, TooDeep};
 
@@ -20,7 +21,8 @@ fn arity(gate: u16) -> usize {
     }
 }
 
-// Whether a constant's own type is a subtype of a claim; of the unit value's it is the unit under any marks.
+// Whether a constant's own type is a subtype of a claim. The unit value may claim the unit under
+// any marks.
 fn is_typed(heap: Global, leaf: Constant, claim: &Kind) -> Result<bool, AllocError> {
     let own = match leaf {
         Constant::Zero | Constant::One => Head::Bit.marked(1),
@@ -69,7 +71,8 @@ fn leave_lambda(site: Site, marks: usize, outer: BTreeSet<usize>) -> Result<BTre
     Ok(outer)
 }
 
-/// The types that a program's nodes may claim, and those of the binders in scope, the outermost first.
+/// The types that a program's nodes may claim, and those of the binders in scope, the outermost
+/// first.
 #[derive(Drop)]
 pub struct Judge<'k> {
     heap: Global,
@@ -91,7 +94,9 @@ impl<'k> Judge<'k> {
 
     // The type that a node claims.
     fn claimed(&self, site: Site) -> Result<&'k Kind, Fault>
-        ensures { MatchResult result (λ _. site.claim < length self.now.kinds.now) (λ e. e ≡ fault ClaimOutside site.cell) }
+        ensures { MatchResult result
+            (λ _. site.claim < length self.now.kinds.now)
+            (λ e. e ≡ fault ClaimOutside site.cell) }
     {
         self.kinds
             .get(site.claim)
@@ -125,7 +130,8 @@ impl<'k> Judge<'k> {
         Ok(leaf_uses(self.heap))
     }
 
-    // Tests a function's rule before its body, enters its binder, and answers how many marks lead its claim.
+    // Tests a function's rule before its body, enters its binder, and answers how many marks lead
+    // its claim.
     fn enter_lambda(&mut self, site: Site, body: Site) -> Result<usize, Halt>
         ensures { 32 ≤ vec_len self.old.scope → result ≡ Err (halt TooDeep site.cell) }
     {
@@ -174,7 +180,8 @@ impl<'k> Judge<'k> {
         outside(used, level)
     }
 
-    // The rule of an application: its function claims exactly what its argument and it itself claim.
+    // The rule of an application: its function claims exactly what its argument and it itself
+    // claim.
     fn test_apply(&self, site: Site, function: Site, argument: Site) -> Result<(), Fault> {
         let claim = self.claimed(site)?;
         let function = self.claimed(function)?;
@@ -229,7 +236,8 @@ impl<'k> Judge<'k> {
         }
     }
 
-    /// The levels of the variables that a tree uses and that may be used once only, or the first fault in tree order.
+    /// The levels of the variables that a tree uses and that may be used once only, or the first
+    /// fault in tree order.
     pub fn judge(&mut self, tree: &Tree) -> Result<BTreeSet<usize>, Halt> {
         self.test(tree)?;
         let site = tree.site;

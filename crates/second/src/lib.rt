@@ -1,5 +1,6 @@
-//! A second interpreter of the quantum lambda calculus, on boxed trees with named variables. It shares no code with the
-//! first but the cells and the numbers of the limits, so that the two can be run against each other.
+//! A second interpreter of the quantum lambda calculus, on boxed trees with named variables. It
+//! shares no code with the first but the cells and the numbers of the limits, so that the two can
+//! be run against each other.
 #![tactic(auto)]
 
 mod halt;

@@ -69,7 +69,8 @@ pub struct Listing {
     text: String,
 }
 
-// How many binders lie between a variable and its binder, the nearest of its name, or how many there are.
+// How many binders lie between a variable and its binder, the nearest of its name, or how many
+// there are.
 fn distance(scope: &[u32], x: Option<u32>) -> usize
     ensures { result ≤ length scope.now }
 {

@@ -58,8 +58,8 @@ fn split_rule(pair: &Term) -> Option<SecondRule>
     }
 }
 
-/// What a term whose root is at a cell waits for: nothing where it is a value, and else the cell that is due, with the
-/// rule that applies there, if one does.
+/// What a term whose root is at a cell waits for: nothing where it is a value, and else the cell
+/// that is due, with the rule that applies there, if one does.
 pub fn seek(term: &Term, at: usize) -> Option<(usize, Option<SecondRule>)> {
     let first = at.saturating_add(1);
     match term {

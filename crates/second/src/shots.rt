@@ -56,8 +56,8 @@ impl Shot {
         })
     }
 
-    // Makes a step, and tells whether there was one to make. A rule that calls the register never lengthens the term, so
-    // the length may be tested last.
+    // Makes a step, and tells whether there was one to make. A rule that calls the register never
+    // lengthens the term, so the length may be tested last.
     fn step(&mut self) -> Result<bool, Halt> {
         let last = self.term.clone()?;
         if !advance(&mut self.term, &mut self.tape)? {
@@ -171,8 +171,8 @@ fn find_rule(heap: Global, cells: &[TermCell]) -> Result<Option<(SecondRule, usi
     }
 }
 
-/// The rule of the next step of any running cells and the cell it applies at, or nothing for a value; or the number and
-/// the cell of their fault.
+/// The rule of the next step of any running cells and the cell it applies at, or nothing for a
+/// value; or the number and the cell of their fault.
 pub fn second_find(
     heap: Global,
     cells: &[TermCell],

@@ -1,5 +1,5 @@
-//! The call-by-value rules of "A lambda calculus for quantum computation with classical control", on named terms: what
-//! each step leaves.
+//! The call-by-value rules of "A lambda calculus for quantum computation with classical control",
+//! on named terms: what each step leaves.
 
 ghost use Rattle.std.specs.Prelude.{◌≡◌};
 ghost use Rattle.second.specs.Terms.{qubit_of, two_qubits_of, operands_of, leaf_bit};

@@ -1,4 +1,5 @@
-//! The faults of whole tables: their lengths, their cells, that they are whole trees, and the places of claims.
+//! The faults of whole tables: their lengths, their cells, that they are whole trees, and the
+//! places of claims.
 
 ghost use Rattle.std.specs.Prelude.{◌≡◌, ◌<◌, length, Err, true, false};
 ghost use Rattle.second.specs.Reasons.{fault};

@@ -1,5 +1,5 @@
-//! The tape's register as the second interpreter knows it: eight qubits, sixty-four pulses, and the parity of a pulse's
-//! number as its outcome.
+//! The tape's register as the second interpreter knows it: eight qubits, sixty-four pulses, and the
+//! parity of a pulse's number as its outcome.
 
 ghost use Rattle.std.specs.Prelude.{◌≡◌, ◌<◌, [], ◌∷◌, ◌++◌, IfSome, IfOk, OnOk};
 ghost use Rattle.second.specs.Tapes.{RefusesSpent};
@@ -23,7 +23,8 @@ pub enum Operands {
     Three(u16, u16, u16),
 }
 
-/// What one pulse did: a preparation with its bit, a gate of a number with its operands, or a read with its outcome.
+/// What one pulse did: a preparation with its bit, a gate of a number with its operands, or a read
+/// with its outcome.
 #[derive(Clone, Copy, Drop)]
 pub enum Pulse {
     Prepare(u16, bool),
@@ -71,7 +72,8 @@ impl Tape {
     /// Prepares a qubit and answers its handle.
     pub fn prepare(&mut self, value: bool) -> Result<u16, Halt>
         ensures limit { RefusesSpent self.old result }
-        ensures pulse { IfOk result (λ handle. self.new.journal.items ≡ self.old.journal.items ++ (Prepare handle value ∷ [])) }
+        ensures pulse { IfOk result (λ handle. self.new.journal.items
+            ≡ self.old.journal.items ++ (Prepare handle value ∷ [])) }
     {
         self.test_pulses()?;
         let handle = self.next_free().ok_or(Reason::Full.at(0))?;
@@ -84,7 +86,8 @@ impl Tape {
     /// Reads a qubit, which stays live.
     pub fn read(&mut self, handle: u16) -> Result<bool, Halt>
         ensures limit { RefusesSpent self.old result }
-        ensures pulse { IfOk result (λ outcome. self.new.journal.items ≡ self.old.journal.items ++ (Read handle outcome ∷ [])) }
+        ensures pulse { IfOk result (λ outcome. self.new.journal.items
+            ≡ self.old.journal.items ++ (Read handle outcome ∷ [])) }
     {
         self.test_pulses()?;
         Reason::NotLive.refuse_if(!self.is_live(handle), 0)?;
@@ -96,7 +99,8 @@ impl Tape {
     /// Does a gate on live qubits, no two of them the same.
     pub fn gate(&mut self, gate: u16, on: Operands) -> Result<(), Halt>
         ensures limit { RefusesSpent self.old result }
-        ensures pulse { OnOk result (self.new.journal.items ≡ self.old.journal.items ++ (Gate gate on ∷ [])) }
+        ensures pulse { OnOk result (self.new.journal.items
+            ≡ self.old.journal.items ++ (Gate gate on ∷ [])) }
     {
         self.test_pulses()?;
         let (are_live, are_distinct) = match on {

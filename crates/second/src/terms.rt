@@ -1,11 +1,13 @@
 //! Running terms as boxed trees with named variables.
 
-ghost use Rattle.std.specs.Prelude.{◌≡◌, ◌+◌, ◌-◌, ◌<◌, length, if◌then◌else◌, vec_len, OnOk, nat_lt, slice_index, Some, None};
+ghost use Rattle.std.specs.Prelude.{◌≡◌, ◌+◌, ◌-◌, ◌<◌, nat_lt, if◌then◌else◌};
+ghost use Rattle.std.specs.Prelude.{length, vec_len, slice_index, Some, None, OnOk};
 
 use crate::nodes::{Constant, Node, Tree};
 use std::alloc::{AllocError, Global};
 
-/// A running term. Each binder has a name of its own as it is loaded; a variable has its binder's, if it has a binder.
+/// A running term. Each binder has a name of its own as it is loaded. A variable has its binder's,
+/// if it has a binder.
 #[derive(Clone, Drop)]
 pub enum Term {
     Variable(Option<u32>),
@@ -28,7 +30,8 @@ pub struct Scope {
 
 // The name that a variable's count of binders leads to, if there is such a binder.
 fn looked_up(scope: &[u32], index: u16) -> Option<u32>
-    ensures { result ≡ (if nat_lt index (length scope.now) then Some (slice_index scope.now (length scope.now - 1 - index)) else None) }
+    ensures { result ≡ (if nat_lt index (length scope.now)
+        then Some (slice_index scope.now (length scope.now - 1 - index)) else None) }
 {
     let level = scope.len().checked_sub(index as usize + 1)?;
     Some(scope[level])

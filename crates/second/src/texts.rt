@@ -122,7 +122,8 @@ impl Reading {
         Ok(())
     }
 
-    // The fault of a last line that does not end: nothing may follow the end line, and before it a line has to end.
+    // The fault of a last line that does not end: nothing may follow the end line, and before it a
+    // line has to end.
     fn unended(&self) -> Fault {
         let line = self.line.saturating_add(1);
         match self.section {

@@ -1,11 +1,14 @@
 -- The qubits that cells name.
-use Rattle.std.specs.Prelude.{ℕ, Bool, true, false, cond, not, ◌&&◌, List, [], ◌∷◌, Some, None, Option, filter, ◌==◌, nat_lt}
+use Rattle.std.specs.Prelude.{ℕ, ◌==◌, nat_lt, Bool, true, false, cond, not, ◌&&◌}
+use Rattle.std.specs.Prelude.{List, [], ◌∷◌, filter, Some, None, Option}
 use Rattle.std.specs.List.{range_with_len}
+use Rattle.calculus.specs.declared.limits.TheConstants.{HANDLES}
+use Rattle.calculus.specs.Alphabet.{op_qubit}
 use Rattle.calculus.specs.declared.cells.TermCell.{TermCell}
 
 -- a q cell names the handle that is its argument
 abbrev pub name_of : TermCell → Option ℕ
-name_of c = cond (c.op == 113 && nat_lt c.argument 32) (Some c.argument) None
+name_of c = cond (c.op == op_qubit && nat_lt c.argument HANDLES) (Some c.argument) None
 
 abbrev pub is_name : Option ℕ → ℕ → Bool
 is_name None h = false

@@ -1,14 +1,17 @@
--- The next term: what a rule leaves, in place of its redex. The first two cells of a redex tell the rule, and its trees follow them.
+-- The next term: what a rule leaves, in place of its redex. The first two cells of a redex tell the
+-- rule, and its trees follow them.
 use Rattle.std.specs.Prelude.{ℕ, ◌+◌, List, [], ◌∷◌, ◌++◌, take, drop}
 use Rattle.calculus.specs.declared.cells.TermCell.{TermCell}
 use Rattle.finder.specs.declared.rules.Rule.{Rule}
-use Rattle.finder.specs.declared.rules.Rule.TheVariants.{Function, Pair, Then, Else, Prepare, Read, Gates}
+use Rattle.finder.specs.declared.rules.Rule.TheVariants.{Function, Pair, Then, Else}
+use Rattle.finder.specs.declared.rules.Rule.TheVariants.{Prepare, Read, Gates}
 use Rattle.stepper.specs.declared.writing.Answer.{Answer}
 use Rattle.stepper.specs.Parts.{taken, after}
 use Rattle.stepper.specs.Substitution.{substitute}
 use Rattle.stepper.specs.Writing.{answer_cell}
 
--- how many trees the redex has: body and argument, left and right and body, both branches, or the argument
+-- how many trees the redex has: body and argument, left and right and body, both branches, or the
+-- argument
 abbrev pub trees : Rule → ℕ
 trees Function = 2
 trees Pair = 3
@@ -30,4 +33,5 @@ left Gates answer cs = taken 1 cs
 
 -- the cells of the next term, by a rule at a cell with the register's answer
 abbrev pub next_cells : List TermCell → Rule → ℕ → Answer → List TermCell
-next_cells cs rule at answer = take at cs ++ (left rule answer (drop (at + 2) cs) ++ after (trees rule) (drop (at + 2) cs))
+next_cells cs rule at answer =
+    take at cs ++ (left rule answer (drop (at + 2) cs) ++ after (trees rule) (drop (at + 2) cs))

@@ -1,4 +1,5 @@
--- The trees that cells begin with, and the cells after them. Where cells end before their trees, all are taken and none is left.
+-- The trees that cells begin with, and the cells after them. Where cells end before their trees,
+-- all are taken and none is left.
 use Rattle.std.specs.Prelude.{ℕ, zero, suc, ◌+◌, List, [], ◌∷◌}
 use Rattle.calculus.specs.Letters.{arity}
 use Rattle.calculus.specs.declared.cells.TermCell.{TermCell}

@@ -1,5 +1,5 @@
-//! What holds of the next term on cells, and of the qubits that cells name. Each function stands for a
-//! theorem: its contract is the theorem's statement.
+//! What holds of the next term on cells, and of the qubits that cells name. Each function stands
+//! for a theorem: its contract is the theorem's statement.
 
 ghost use Rattle.stepper.specs.Laws.{StepLaws};
 ghost use Rattle.stepper.specs.Names.{NamesLaws};

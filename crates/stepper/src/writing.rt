@@ -1,6 +1,8 @@
 //! Writes the next term: what a rule leaves, in place of the cells that it applies to.
 
-ghost use Rattle.std.specs.Prelude.{◌≡◌, ◌+◌, ◌*◌, ◌^◌, ◌<◌, ◌≤◌, [], ◌∷◌, length, take, drop, IfSome};
+ghost use Rattle.std.specs.Prelude.{◌≡◌, ◌+◌, ◌*◌, ◌^◌, ◌<◌, ◌≤◌};
+ghost use Rattle.std.specs.Prelude.{[], ◌∷◌, length, take, drop, IfSome};
+ghost use Rattle.calculus.specs.declared.limits.TheConstants.{MOST_RUNNING_CELLS};
 ghost use Rattle.stepper.specs.Laws.{MakesStep};
 ghost use Rattle.stepper.specs.Next.{trees, left, next_cells};
 ghost use Rattle.stepper.specs.Parts.{taken, after};
@@ -75,14 +77,14 @@ fn overlay_one(table: &mut [TermCell], at: usize, cell: TermCell)
     }
 }
 
-// Cells that are put at the front of a table, one behind the other: they are counted, and written as
-// far as the table goes. There are never more than a running term may have. An empty table has cells
-// only counted.
+// Cells that are put at the front of a table, one behind the other. They are counted, and written
+// as far as the table goes. There are never more than a running term may have. Where the table is
+// empty, cells are only counted.
 #[derive(Drop)]
 struct Front<'a> {
     table: &'a mut [TermCell],
     len: usize,
-    ghost few: { len ≤ 1024 },
+    ghost few: { len ≤ MOST_RUNNING_CELLS },
 }
 
 impl Front<'_> {
@@ -111,10 +113,11 @@ impl Front<'_> {
         (few == cells.len()).then_some(())
     }
 
-    // Puts what stands for a cell under `depth` binders, around which are those of the values: itself, a value, or the variable that
-    // it is without their binders.
+    // Puts what stands for a cell under `depth` binders, around which are those of the values:
+    // itself, a value, or the variable that it is without their binders.
     fn put_cell(&mut self, cell: TermCell, depth: usize, values: &[&[TermCell]]) -> Option<()>
-        ensures { Puts result self.old self.new (substitute_cell (values_of values.now) depth cell) }
+        ensures { Puts result self.old self.new
+            (substitute_cell (values_of values.now) depth cell) }
     {
         let index = cell.argument as usize;
         if cell.op != 'v' || index < depth {
@@ -126,8 +129,8 @@ impl Front<'_> {
         }
     }
 
-    // Puts what stands for the tree that the cells begin with, which has `depth` binders around it within those of the values, the
-    // nearer first; answers the cells after the tree.
+    // Puts what stands for the tree that the cells begin with, which has `depth` binders around it
+    // within those of the values, the nearer first. Answers the cells after the tree.
     fn substitute<'c>(
         &mut self,
         cells: &'c [TermCell],
@@ -160,7 +163,8 @@ impl Front<'_> {
         }
     }
 
-    // Puts what the rule leaves of the trees of its redex, with which the cells begin; answers the cells after the trees.
+    // Puts what the rule leaves of the trees of its redex, with which the cells begin. Answers the
+    // cells after the trees.
     fn put_left<'c>(
         &mut self,
         cells: &'c [TermCell],
@@ -202,7 +206,8 @@ impl Front<'_> {
     }
 }
 
-// The cells before a redex, and those past its first two, which begin with its trees; none, where there are no more.
+// The cells before a redex, and those past its first two, which begin with its trees; none, where
+// there are no more.
 fn split_redex(cells: &[TermCell], at: usize) -> (&[TermCell], &[TermCell])
     ensures before { result.0.now ≡ take at cells.now }
     ensures trees { result.1.now ≡ drop (at + 2) cells.now }
@@ -214,9 +219,9 @@ fn split_redex(cells: &[TermCell], at: usize) -> (&[TermCell], &[TermCell])
     }
 }
 
-/// Counts the cells of the next term, which the rule makes at a cell with the register's answer, and
-/// writes them over the table from its front, as far as it goes. Where a running term may not have so
-/// many, nothing is answered, and as many as it may have are written.
+/// Counts the cells of the next term, which the rule makes at a cell with the register's answer,
+/// and writes them over the table from its front, as far as it goes. Where a running term may not
+/// have so many, nothing is answered, and as many as it may have are written.
 pub fn put_next(
     cells: &[TermCell],
     rule: Rule,
@@ -225,7 +230,8 @@ pub fn put_next(
     table: &mut [TermCell],
 ) -> Option<usize>
     ensures answer { result ≡ counted (next_cells cells.now rule at answer) }
-    ensures table { table.new ≡ overlaid table.old 0 (take 1024 (next_cells cells.now rule at answer)) }
+    ensures table { table.new
+        ≡ overlaid table.old 0 (take MOST_RUNNING_CELLS (next_cells cells.now rule at answer)) }
 {
     let (before, trees) = split_redex(cells, at);
     let mut front = Front { table, len: 0 };
@@ -235,14 +241,14 @@ pub fn put_next(
     Some(front.len)
 }
 
-/// Counts the cells of the next term, and writes it to the front of the table if that is long enough;
-/// nothing where a running term may not have so many cells, and then the table stays.
+/// Counts the cells of the next term, and writes it to the front of the table if that is long
+/// enough; nothing where a running term may not have so many cells, and then the table stays.
 ///
-/// The next term is that of a step where the cells mean a term in which nothing but qubits is free, the
-/// rule at the cell is the one found, and the answer fits the rule. A value is put under binders as it
-/// stands, so a variable that is free in it may come to be bound there, where a step raises it. An
-/// answer to a rule that asks for none is disregarded; to another rule its cell stands for the redex,
-/// whichever it is.
+/// The next term is that of a step where the cells mean a term in which nothing but qubits is free,
+/// the rule at the cell is the one found, and the answer fits the rule. A value is put under
+/// binders as it stands, so a variable that is free in it may come to be bound there, where a step
+/// raises it. An answer to a rule that asks for none is disregarded; to another rule its cell
+/// stands for the redex, whichever it is.
 pub fn next(
     cells: &[TermCell],
     rule: Rule,

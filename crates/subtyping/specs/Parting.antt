@@ -5,7 +5,8 @@ use Rattle.calculus.specs.Stripping.{marks, left_of, right_of}
 use Rattle.calculus.specs.Types.{Ty, bit, qbit, unit, arrow, tensor, bangs}
 use Rattle.subtyping.specs.Meaning.{meant, past, standing, Bare, Marked}
 use Rattle.subtyping.specs.declared.parting.Core.{Core}
-use Rattle.subtyping.specs.declared.parting.Core.TheVariants.{Bit, Qubit, Unit as Empty, Arrow, Pair}
+use Rattle.subtyping.specs.declared.parting.Core.TheVariants.{Bit, Qubit, Unit as Empty}
+use Rattle.subtyping.specs.declared.parting.Core.TheVariants.{Arrow, Pair}
 use Rattle.subtyping.specs.declared.placed.TypeAt.{TypeAt}
 
 -- the type that is meant by what stands after the marks
@@ -29,7 +30,8 @@ PartsAt types place Empty = Unit {0}
 PartsAt types place (Arrow a b) = PartsStand types place a b
 PartsAt types place (Pair a b) = PartsStand types place a b
 
--- The type is what stands after the marks that were counted, with them in front of it, and the parts stand where they are said to.
+-- The type is what stands after the marks that were counted, with them in front of it. The parts
+-- stand where they are said to.
 pub record Apart (a : TypeAt) (answer : ℕ × Core) : Type 0 where
   pub is : meant a ≡ bangs answer.0 (core_meant answer.1)
   pub count : answer.0 ≡ a.marks + marks (standing a)
@@ -40,5 +42,6 @@ pub record Apart (a : TypeAt) (answer : ℕ × Core) : Type 0 where
 pub record Components (a left right : TypeAt) : Type 0 where
   pub left_is : meant left ≡ left_of (meant a)
   pub right_is : meant right ≡ right_of (meant a)
-  pub left_at : Marked a.types.now (a.marks + marks (standing a)) (a.place + marks (standing a) + 1) left
+  pub left_at : Marked a.types.now (a.marks + marks (standing a))
+      (a.place + marks (standing a) + 1) left
   pub right_at : Marked a.types.now (a.marks + marks (standing a)) (past left) right

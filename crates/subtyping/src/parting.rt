@@ -1,6 +1,7 @@
 //! Types of a table taken apart: marks, and what stands after them.
 
 ghost use Rattle.std.specs.Prelude.{◌≡◌, ◌+◌, ◌≤◌, ◌⊎◌, is_some, IfSome};
+ghost use Rattle.calculus.specs.Alphabet.{kind_arrow, kind_pair};
 ghost use Rattle.calculus.specs.Stripping.{is_tensor};
 ghost use Rattle.calculus.specs.Types.{bangs};
 ghost use Rattle.subtyping.specs.Letters.{kind_of};
@@ -8,6 +9,7 @@ ghost use Rattle.subtyping.specs.Meaning.{meant, past, standing};
 ghost use Rattle.subtyping.specs.Parting.{Apart, Components, PartsStand};
 
 use crate::placed::TypeAt;
+use calculus::MOST_TYPE_CELLS;
 use trees::reach;
 
 /// What stands after the marks of a type.
@@ -30,7 +32,8 @@ impl<'a> TypeAt<'a> {
 
     // The two parts of an arrow or a pair, one after the other.
     fn parts(self) -> (TypeAt<'a>, TypeAt<'a>)
-        requires { (kind_of (standing self) ≡ 62) ⊎ (kind_of (standing self) ≡ 42) }
+        requires { (kind_of (standing self) ≡ kind_arrow)
+            ⊎ (kind_of (standing self) ≡ kind_pair) }
         ensures { PartsStand self.entry.types.now self.entry.place result.0 result.1 }
     {
         let first = self.next();
@@ -60,9 +63,10 @@ impl<'a> TypeAt<'a> {
 
     // The type with so many more marks in front of it.
     fn marked(self, marks: usize) -> TypeAt<'a>
-        requires { self.marks + marks ≤ 256 + self.place }
+        requires { self.marks + marks ≤ MOST_TYPE_CELLS + self.place }
         ensures count { result.marks ≡ self.entry.marks + marks }
-        ensures stands { (result.types.now ≡ self.entry.types.now) × (result.place ≡ self.entry.place) }
+        ensures stands { (result.types.now ≡ self.entry.types.now)
+            × (result.place ≡ self.entry.place) }
         ensures meant { meant result ≡ bangs marks (meant self.entry) }
     {
         TypeAt {

@@ -1,4 +1,5 @@
-//! Types at places of tables, what they begin with, and the two relations between them: equality and subtyping.
+//! Types at places of tables, what they begin with, and the two relations between them: equality
+//! and subtyping.
 
 ghost use Rattle.std.specs.Prelude.{◌≡◌, ◌+◌, ◌<◌, length};
 ghost use Rattle.calculus.specs.Stripping.{marks, same, subtype};

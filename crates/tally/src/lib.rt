@@ -1,8 +1,9 @@
 //! How often two interpreters agreed, by outcome.
 #![tactic(auto)]
 
-ghost use Rattle.std.specs.Prelude.{◌≡◌, ◌&&◌, not, true, IfOk};
-ghost use Rattle.tally.specs.Outcomes.{counted, is_shot, outcome_of};
+ghost use Rattle.std.specs.Prelude.{◌≡◌, ◌&&◌, not, true, IfOk, OnOk};
+ghost use Rattle.std.specs.BTreeMap.{IsEmpty, IsUnchanged};
+ghost use Rattle.tally.specs.Outcomes.{counted, is_shot, outcome_of, CountsOne, CountsOneIf};
 
 use controller::Stop;
 use listing::Shot;
@@ -54,8 +55,8 @@ impl fmt::Display for Outcome {
     }
 }
 
-/// Agreements by outcome, how many of them were of shots, and how often the interpreters differed; and where the comparisons
-/// print.
+/// Agreements by outcome, how many of them were of shots, and how often the interpreters differed;
+/// and where the comparisons print.
 #[derive(Drop)]
 pub struct Tally<'r> {
     pub rt: &'r HostRuntime,
@@ -68,7 +69,9 @@ pub struct Tally<'r> {
 impl<'r> Tally<'r> {
     /// Nothing compared yet.
     pub fn new(rt: &'r HostRuntime) -> Tally<'r>
-        ensures { (result.shots ≡ 0) × (result.differences ≡ 0) }
+        ensures agreements { IsEmpty result.agreements }
+        ensures shots { result.shots ≡ 0 }
+        ensures differences { result.differences ≡ 0 }
     {
         let heap = rt.alloc();
         Tally {
@@ -89,6 +92,8 @@ impl<'r> Tally<'r> {
 
     // One more comparison that agreed, with its outcome.
     fn agree(&mut self, outcome: Outcome) -> Result<(), AllocError>
+        ensures agreements { OnOk result
+            (CountsOne ⟦<Outcome as Ord>⟧.cmp self.old.agreements self.new.agreements outcome) }
         ensures shots { self.new.shots ≡ counted (is_shot outcome) self.old.shots }
         ensures differences { self.new.differences ≡ self.old.differences }
     {
@@ -105,15 +110,19 @@ impl<'r> Tally<'r> {
 
     /// One more difference.
     pub fn differ(&mut self)
+        ensures agreements { IsUnchanged self.old.agreements self.new.agreements }
         ensures shots { self.new.shots ≡ self.old.shots }
         ensures differences { self.new.differences ≡ counted true self.old.differences }
     {
         self.differences = self.differences.saturating_add(1);
     }
 
-    /// One more comparison: an agreement with its outcome, or else a difference. Answers which it was.
+    /// One more comparison: an agreement with its outcome, or else a difference. Answers which it
+    /// was.
     pub fn compare(&mut self, is_same: bool, outcome: Outcome) -> Result<bool, AllocError>
         ensures answer { IfOk result (λ agreed. agreed ≡ is_same) }
+        ensures agreements { OnOk result (CountsOneIf is_same ⟦<Outcome as Ord>⟧.cmp
+            self.old.agreements self.new.agreements outcome) }
         ensures shots { self.new.shots ≡ counted (is_same && is_shot outcome) self.old.shots }
         ensures differences { self.new.differences ≡ counted (not is_same) self.old.differences }
     {

@@ -1,4 +1,5 @@
-//! Prefix trees over a slice of cells of any kind, a tree being a cell followed by the trees of its parts; and the first cell that fails a test.
+//! Prefix trees over a slice of cells of any kind, and the first cell that fails a test. A tree is
+//! a cell followed by the trees of its parts.
 #![tactic(auto)]
 
 ghost use Rattle.std.specs.Prelude.{◌≡◌, ℕ, Bool, length, drop};
@@ -40,10 +41,11 @@ pub fn not_one_tree<T: Cell>(cells: &[T]) -> Option<usize>
     (end != cells.len()).then_some(end)
 }
 
-/// Copies the tree at `at` to the front of a table, whose rest stays, and answers its number of cells;
-/// nothing is copied where the cells end first or the table is too short.
+/// Copies the tree at `at` to the front of a table, whose rest stays. It answers how many cells
+/// were copied. Nothing is copied if the cells end first or the table is too short.
 pub fn copy<T: Cell>(cells: &[T], at: usize, to: &mut [T]) -> Option<usize>
-    ensures answer { result ≡ copied_count (ends T.arity 1 (drop at cells.now) at) at (length to.old) }
+    ensures answer { result
+        ≡ copied_count (ends T.arity 1 (drop at cells.now) at) at (length to.old) }
     ensures table { to.new ≡ fronted result (drop at cells.now) to.old }
 {
     let len = reach(cells, at)? - at;
@@ -68,7 +70,8 @@ pub fn count<T: Cell>(cells: &[T]) -> Option<usize>
 /// The place of the first cell that fails a test.
 pub fn first_failing<T: Copy, F: Fn(T) -> bool>(cells: &[T], passes: F) -> Option<usize>
     requires { F.IsAlwaysCallable passes }
-    ensures { (holds : T → Bool) → ((x : T) (r : Bool) → F.post passes x r → r ≡ holds x) → result ≡ first_failing holds cells.now 0 }
+    ensures { (holds : T → Bool) → ((x : T) (r : Bool) → F.post passes x r → r ≡ holds x)
+        → result ≡ first_failing holds cells.now 0 }
 {
     cells.iter().position(|cell| !passes(*cell))
 }

@@ -2,7 +2,8 @@
 use Rattle.std.specs.Prelude.{Bool, false, ◌&&◌, List, Some, None, Option}
 use Rattle.std.specs.List.{slice_get}
 use Rattle.calculus.specs.Types.{Ty, bit, unit, arrow}
-use Rattle.calculus.specs.Terms.{Const, type_of, bound, held, Term, var, const, star, lam, app, pair, if_then_else, let_pair, claim_of}
+use Rattle.calculus.specs.Terms.{Const, type_of, bound, held, claim_of}
+use Rattle.calculus.specs.Terms.{Term, var, const, star, lam, app, pair, if_then_else, let_pair}
 use Rattle.calculus.specs.Contexts.{Context}
 use Rattle.calculus.specs.Stripping.{same, core, first, is_tensor, left_of, right_of, subtype}
 

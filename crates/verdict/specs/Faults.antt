@@ -1,7 +1,9 @@
 -- The faults of a program with their numbers, and verdicts made of tests in a row.
 use Rattle.std.specs.Prelude.{ℕ, Bool, cond, Ok, Err, Result}
 use Rattle.verdict.specs.declared.faults.CheckReason.{CheckReason}
-use Rattle.verdict.specs.declared.faults.CheckReason.TheVariants.{TooManyCells, BadCell, NotWhole, ClaimOutside, TooDeep, NoBinder, WrongClaim, UsedTwice, Captures}
+use Rattle.verdict.specs.declared.faults.CheckReason.TheVariants.{TooManyCells, BadCell, NotWhole}
+use Rattle.verdict.specs.declared.faults.CheckReason.TheVariants.{ClaimOutside, TooDeep, NoBinder}
+use Rattle.verdict.specs.declared.faults.CheckReason.TheVariants.{WrongClaim, UsedTwice, Captures}
 use Rattle.verdict.specs.declared.faults.CheckFault.{CheckFault}
 
 abbrev pub number_of : CheckReason → ℕ

@@ -1,7 +1,10 @@
--- The verdict on a term, in tree order: each node's tests, then its parts, then what the parts share.
-use Rattle.std.specs.Prelude.{◌≡◌, ℕ, ◌+◌, ◌≤◌, Bool, true, false, ◌||◌, ◌↔◌, List, [], ◌∷◌, length, is_some, nat_le}
+-- The verdict on a term, in tree order: each node's tests, then its parts, then what the parts
+-- share.
+use Rattle.std.specs.Prelude.{◌≡◌, ℕ, ◌+◌, ◌≤◌, ◌↔◌, nat_le}
+use Rattle.std.specs.Prelude.{Bool, true, false, ◌||◌, List, [], ◌∷◌, length, is_some}
 use Rattle.calculus.specs.Types.{Ty}
-use Rattle.calculus.specs.Terms.{bound, held, under, Term, var, const, star, lam, app, pair, if_then_else, let_pair, claim_of, size}
+use Rattle.calculus.specs.Terms.{bound, held, under, claim_of, size}
+use Rattle.calculus.specs.Terms.{Term, var, const, star, lam, app, pair, if_then_else, let_pair}
 use Rattle.calculus.specs.Contexts.{empty}
 use Rattle.calculus.specs.Typing.{Derives, Claimed}
 use Rattle.calculus.specs.Stripping.{marks, first, left_of, right_of}
@@ -9,7 +12,8 @@ use Rattle.verdict.specs.Claims.{context_of, claims_fit}
 use Rattle.verdict.specs.Faults.{Verdict, accepted, must, ◌then◌, fault}
 use Rattle.verdict.specs.Sharing.{apart, uncaptured}
 use Rattle.verdict.specs.Uses.{uses, nested}
-use Rattle.verdict.specs.declared.faults.CheckReason.TheVariants.{BadCell, TooDeep, NoBinder, WrongClaim}
+use Rattle.verdict.specs.declared.faults.CheckReason.TheVariants.{BadCell, TooDeep}
+use Rattle.verdict.specs.declared.faults.CheckReason.TheVariants.{NoBinder, WrongClaim}
 
 -- how many binders a node puts in scope
 abbrev pub binders_of : Term Ty → ℕ
@@ -88,11 +92,14 @@ verdict_from k bs (let_pair c m n) =
 abbrev pub verdict : Term Ty → Verdict
 verdict m = verdict_from 0 [] m
 
--- Accepted are just the terms that have a derivation with their claims, and at most 32 nested binders.
+-- Accepted are just the terms that have a derivation with their claims, and at most 32 nested
+-- binders.
 abbrev pub AcceptanceIsDerivability : Type 0
-AcceptanceIsDerivability = (m : Term Ty) → (verdict m ≡ accepted) ↔ ((nested m ≤ 32) × Derives Claimed empty m (claim_of m))
+AcceptanceIsDerivability = (m : Term Ty)
+    → (verdict m ≡ accepted) ↔ ((nested m ≤ 32) × Derives Claimed empty m (claim_of m))
 
 -- The same below binders.
 abbrev pub AcceptanceIsDerivabilityBelow : Type 0
 AcceptanceIsDerivabilityBelow = (k : ℕ) (bs : List Ty) (m : Term Ty) → length bs ≤ 32
-    → (verdict_from k bs m ≡ accepted) ↔ ((length bs + nested m ≤ 32) × Derives Claimed (context_of bs) m (claim_of m))
+    → (verdict_from k bs m ≡ accepted)
+    ↔ ((length bs + nested m ≤ 32) × Derives Claimed (context_of bs) m (claim_of m))

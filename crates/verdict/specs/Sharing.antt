@@ -9,12 +9,15 @@ use Rattle.verdict.specs.declared.faults.CheckReason.TheVariants.{UsedTwice, Cap
 -- each variable of these binders, the nearest first, that is used has a duplicable type
 abbrev pub all_duplicable : List Ty → (Var → Bool) → Bool
 all_duplicable [] used = true
-all_duplicable (b ∷ bs) used = (not (used (bound zero)) || duplicable b) && all_duplicable bs (λ x. used (under x))
+all_duplicable (b ∷ bs) used =
+    (not (used (bound zero)) || duplicable b) && all_duplicable bs (λ x. used (under x))
 
 -- two parts both use duplicable variables only
 abbrev pub apart : ℕ → List Ty → (Var → Bool) → (Var → Bool) → Verdict
-apart k bs left right = must (all_duplicable bs (λ x. left x && right x)) (fault UsedTwice k) accepted
+apart k bs left right =
+    must (all_duplicable bs (λ x. left x && right x)) (fault UsedTwice k) accepted
 
 -- a function after n marks, where there are any, uses duplicable variables only
 abbrev pub uncaptured : ℕ → List Ty → ℕ → (Var → Bool) → Verdict
-uncaptured k bs n used = must (not (positive n) || all_duplicable bs used) (fault Captures k) accepted
+uncaptured k bs n used =
+    must (not (positive n) || all_duplicable bs used) (fault Captures k) accepted

@@ -3,12 +3,14 @@
 use Rattle.std.specs.Prelude.{◌≡◌, ℕ, ◌+◌, ◌<◌, ◌≤◌, ◌⊎◌, ◌↔◌, List, [], ◌∷◌, length, Some, Ok, Err}
 use Rattle.std.specs.List.{slice_get}
 use Rattle.calculus.specs.Types.{Ty, bit, unit, bangs, arrow, tensor, Sub, Duplicable}
-use Rattle.calculus.specs.Terms.{Const, type_of, Var, bound, held, under, Term, var, const, star, lam, app, pair, if_then_else, let_pair, Free, claim_of, size}
+use Rattle.calculus.specs.Terms.{Const, type_of, Var, bound, held, under, Free, claim_of, size}
+use Rattle.calculus.specs.Terms.{Term, var, const, star, lam, app, pair, if_then_else, let_pair}
 use Rattle.verdict.specs.Claims.{context_of}
 use Rattle.verdict.specs.Faults.{Verdict, number_of, fault}
 use Rattle.verdict.specs.Judging.{binders_of, verdict}
 use Rattle.verdict.specs.declared.faults.CheckReason.{CheckReason}
-use Rattle.verdict.specs.declared.faults.CheckReason.TheVariants.{BadCell, TooDeep, NoBinder, WrongClaim, UsedTwice, Captures}
+use Rattle.verdict.specs.declared.faults.CheckReason.TheVariants.{BadCell, TooDeep, NoBinder}
+use Rattle.verdict.specs.declared.faults.CheckReason.TheVariants.{WrongClaim, UsedTwice, Captures}
 use Rattle.verdict.specs.declared.faults.CheckFault.{CheckFault}
 
 -- The term p stands at the cell j, below binders of the types ds, the nearest first, inside a term

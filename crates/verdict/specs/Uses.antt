@@ -1,7 +1,8 @@
 -- Which variables a term uses, and how many binders its nodes stand below.
 use Rattle.std.specs.Prelude.{ℕ, suc, Bool, false, ◌||◌, T, ◌↔◌, max, ◌==◌}
 use Rattle.calculus.specs.Types.{Ty}
-use Rattle.calculus.specs.Terms.{Var, bound, held, under, Term, var, const, star, lam, app, pair, if_then_else, let_pair, Free}
+use Rattle.calculus.specs.Terms.{Var, bound, held, under, Free}
+use Rattle.calculus.specs.Terms.{Term, var, const, star, lam, app, pair, if_then_else, let_pair}
 
 abbrev pub same_variable : Var → Var → Bool
 same_variable (bound i) (bound j) = i == j

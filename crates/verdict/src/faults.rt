@@ -63,7 +63,8 @@ impl CheckReason {
     }
 }
 
-/// A refused program: the reason, and the cell at fault: of the type table or of the term table up to `NotWhole`, else of the term table.
+/// A refused program: the reason, and the cell at fault. The cell is of the type table or of the
+/// term table for the reasons up to `NotWhole`, and of the term table for the others.
 #[derive(Clone, Copy, PartialEq, Eq, Debug, Drop)]
 pub struct CheckFault {
     pub reason: CheckReason,

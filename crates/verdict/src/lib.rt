@@ -1,4 +1,5 @@
-//! The verdict on a program: its faults, and the judging of a term as a definition on trees, with what it decides.
+//! The verdict on a program: its faults, and the judging of a term as a definition on trees, with
+//! what it decides.
 #![tactic(auto)]
 
 mod deciding;

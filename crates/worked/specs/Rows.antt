@@ -1,6 +1,7 @@
 -- What a row of the table of worked terms may say, each in the product's own definitions and in the
 -- calculus' relations.
-use Rattle.std.specs.Prelude.{◌≡◌, ℕ, zero, suc, true, false, List, [], ◌∷◌, Some, None, Ok, Err, Option, Result}
+use Rattle.std.specs.Prelude.{◌≡◌, ℕ, zero, suc, true, false, List, [], ◌∷◌}
+use Rattle.std.specs.Prelude.{Some, None, Ok, Err, Option, Result}
 use Rattle.calculus.specs.Cells.{running_cells}
 use Rattle.calculus.specs.Contexts.{empty}
 use Rattle.calculus.specs.Reduction.{Value, Effect, Reduces}

@@ -1,9 +1,11 @@
 -- The table of worked terms.
 use Rattle.std.specs.Prelude.{true, false, List, [], ◌∷◌}
-use Rattle.calculus.specs.Terms.{bit_of, meas, new, gate, bound, held, Term, var, const, star, lam, app, pair, if_then_else, Running}
+use Rattle.calculus.specs.Terms.{bit_of, meas, new, gate, bound, held}
+use Rattle.calculus.specs.Terms.{Term, var, const, star, lam, app, pair, if_then_else, Running}
 use Rattle.calculus.specs.Types.{Ty, bit, qbit, unit, bang, arrow, tensor}
 use Rattle.calculus.specs.declared.gates.Gate.TheVariants.{H, Cnot, Toffoli}
-use Rattle.worked.specs.Rows.{Row, passes, fails, refused, below, not_below, stuck, comes_to, AllHold}
+use Rattle.worked.specs.Rows.{Row, AllHold}
+use Rattle.worked.specs.Rows.{passes, fails, refused, below, not_below, stuck, comes_to}
 
 -- fun x.(x, x), where x has the type a and each component claims b
 abbrev pub twice : Ty → Ty → Term Ty

@@ -3,7 +3,8 @@
 use Rattle.std.specs.Prelude.{ℕ, ◌+◌, List, [], ◌∷◌, ◌++◌, length}
 use Rattle.std.specs.List.{flat_map}
 use Rattle.calculus.specs.Cells.{type_cells, placed_cells, cell_of}
-use Rattle.calculus.specs.Terms.{Term, var, const, star, lam, app, pair, if_then_else, let_pair, reclaimed}
+use Rattle.calculus.specs.Terms.{Term, reclaimed}
+use Rattle.calculus.specs.Terms.{var, const, star, lam, app, pair, if_then_else, let_pair}
 use Rattle.calculus.specs.Types.{Ty}
 use Rattle.calculus.specs.declared.cells.TypeCell.{TypeCell}
 use Rattle.calculus.specs.declared.cells.TermCell.{TermCell}
