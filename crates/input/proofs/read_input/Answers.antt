@@ -1,6 +1,6 @@
 use Rattle.std.proofs.Common.{◌-◌, length, take, arith}
-use Rattle.qlshot.proofs.Filling.{consumed_on, filled_on}
-use Rattle.qlshot.proofs.read_input.Goals as goal
+use Rattle.input.proofs.Filling.{consumed_on, filled_on}
+use Rattle.input.proofs.read_input.Goals as goal
 
 pub loop-filled-preserved : goal.loop-filled-preserved
 loop-filled-preserved g c =
