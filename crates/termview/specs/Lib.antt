@@ -1,0 +1,4 @@
+pub mod Bytes
+pub mod Depths
+pub mod Judging
+pub mod Rows
