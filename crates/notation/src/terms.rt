@@ -1,6 +1,6 @@
 //! Terms as text.
 
-ghost use Rattle.std.specs.Prelude.{◌≡◌, ◌+◌, ◌*◌, ◌^◌, ◌<◌, ◌≤◌, ◌++◌, length, IfOk, OnOk, string_bytes};
+ghost use Rattle.std.specs.Prelude.{◌≡◌, ◌+◌, ◌-◌, ◌*◌, ◌^◌, ◌<◌, ◌≤◌, ◌++◌, length, IfOk, OnOk, string_bytes};
 ghost use Rattle.calculus.specs.Reading.{rest, top};
 ghost use Rattle.notation.specs.Terms.{function_head, let_head, no_term, term_text, term_trees};
 
@@ -42,7 +42,7 @@ pub fn push_term<'a>(
     ensures text { OnOk result (string_bytes out.new
         ≡ string_bytes out.old ++ term_text binders around (top no_term (term_trees cells.now))) }
     ensures rest { IfOk result (λ after. term_trees after.now ≡ rest (term_trees cells.now)) }
-    ensures shorter { IfOk result (λ after. length after.now ≤ length cells.now) }
+    ensures shorter { IfOk result (λ after. length after.now ≤ length cells.now - 1) }
 {
     let Some((cell, parts)) = cells.split_first() else {
         out.push_str("?")?;

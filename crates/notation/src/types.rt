@@ -1,6 +1,6 @@
 //! Types as text.
 
-ghost use Rattle.std.specs.Prelude.{◌≡◌, ◌≤◌, ◌++◌, length, IfOk, OnOk, string_bytes};
+ghost use Rattle.std.specs.Prelude.{◌≡◌, ◌-◌, ◌≤◌, ◌++◌, length, IfOk, OnOk, string_bytes};
 ghost use Rattle.calculus.specs.Reading.{rest, top};
 ghost use Rattle.notation.specs.Types.{no_type, plain_text, type_text, type_trees};
 
@@ -30,7 +30,7 @@ pub fn push_type<'a>(
     ensures text { OnOk result (string_bytes out.new
         ≡ string_bytes out.old ++ type_text around (top no_type (type_trees cells.now))) }
     ensures rest { IfOk result (λ after. type_trees after.now ≡ rest (type_trees cells.now)) }
-    ensures shorter { IfOk result (λ after. length after.now ≤ length cells.now) }
+    ensures shorter { IfOk result (λ after. length after.now ≤ length cells.now - 1) }
 {
     let Some((cell, parts)) = cells.split_first() else {
         out.push_str("?")?;

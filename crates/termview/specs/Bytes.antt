@@ -1,14 +1,14 @@
 -- Bytes as printed characters, and columns of them.
-use Rattle.std.specs.Prelude.{ℕ, ◌-◌, ◌/◌, ◌%◌, cond, ◌&&◌, List, [], ◌∷◌, ◌++◌, codes, decimal, get_or, length, nat_le, replicate, take, ◌==◌}
+use Rattle.std.specs.Prelude.{ℕ, ◌+◌, ◌-◌, ◌/◌, ◌%◌, cond, ◌&&◌, List, [], ◌∷◌, ◌++◌, codes, decimal, length, nat_le, nat_lt, replicate, take, ◌==◌}
 use Rattle.std.specs.List.{flat_map}
 
 -- a digit of base 16
-abbrev pub digit : ℕ → ℕ
-digit d = get_or (codes "0123456789abcdef") d 0
+abbrev pub digit_of : ℕ → ℕ
+digit_of d = cond (nat_lt d 10) (48 + d) (87 + d)
 
 -- a byte by its number
 abbrev pub coded : ℕ → List ℕ
-coded b = codes "\\x" ++ (digit (b / 16) ∷ digit (b % 16) ∷ [])
+coded b = codes "\\x" ++ (digit_of (b / 16) ∷ (digit_of (b % 16) ∷ []))
 
 -- A byte stands for itself from the blank to `~`, but for the stroke that begins escapes.
 abbrev pub shown_byte : ℕ → List ℕ
@@ -26,8 +26,12 @@ right width n = replicate (width - length (decimal n)) 32 ++ decimal n
 abbrev pub left : ℕ → List ℕ → List ℕ
 left width bytes = flat_map shown_byte bytes ++ replicate (width - length bytes) 32
 
--- the same, where too many bytes are cut
-abbrev pub cut : ℕ → List ℕ → List ℕ
-cut width bytes =
-    cond (nat_le (length bytes) width) (left width bytes)
+-- bytes, of which those are cut that a column has no room for
+abbrev pub front : ℕ → List ℕ → List ℕ
+front width bytes =
+    cond (nat_le (length bytes) width) (flat_map shown_byte bytes)
     (flat_map shown_byte (take (width - 3) bytes) ++ codes "...")
+
+-- the same at the left of the column
+abbrev pub cut : ℕ → List ℕ → List ℕ
+cut width bytes = front width bytes ++ replicate (width - length bytes) 32

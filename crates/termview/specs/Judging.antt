@@ -1,5 +1,5 @@
 -- What the product says of a text: the answers of its reader and of its checker.
-use Rattle.std.specs.Prelude.{◌≡◌, ℕ, Bool, not, List, length, take, replicate, Ok, Err, Result, Option, Some, None, ◌==◌}
+use Rattle.std.specs.Prelude.{◌≡◌, ℕ, not, List, length, take, replicate, Ok, Err, Result, Option, Some, None, ◌==◌}
 use Rattle.calculus.specs.Cells.{blank, kind_cell}
 use Rattle.calculus.specs.declared.cells.TermCell.{TermCell}
 use Rattle.calculus.specs.declared.cells.TypeCell.{TypeCell}
@@ -8,9 +8,9 @@ use Rattle.reader.specs.declared.faults.ReadFault.{ReadFault}
 use Rattle.checker.specs.Accepting.{program_verdict}
 use Rattle.trees.specs.Failing.{first_failing}
 use Rattle.verdict.specs.Faults.{Verdict as CheckVerdict}
-use Rattle.termview.specs.declared.judging.Judged.{Judged}
-use Rattle.termview.specs.declared.judging.Verdict.{Verdict}
-use Rattle.termview.specs.declared.judging.Verdict.TheVariants.{Unread, Refused, Accepted}
+use Rattle.termview.specs.declared.judged.Judged.{Judged}
+use Rattle.termview.specs.declared.judged.Verdict.{Verdict}
+use Rattle.termview.specs.declared.judged.Verdict.TheVariants.{Unread, Refused, Accepted}
 
 -- what is read of a text into new tables
 abbrev pub reading_of : List ℕ → Outcome
@@ -28,21 +28,38 @@ kinds_there types = or_length (length types) (first_failing (λ c. not (c.kind =
 abbrev pub ops_there : List TermCell → ℕ
 ops_there terms = or_length (length terms) (first_failing (λ c. not (c.op == 0)) terms 0)
 
+-- how many cells of each table were read
+abbrev pub kinds_by : Result (ℕ × ℕ) ReadFault → List TypeCell → ℕ
+kinds_by (Ok n) types = n.0
+kinds_by (Err f) types = kinds_there types
+
+abbrev pub ops_by : Result (ℕ × ℕ) ReadFault → List TermCell → ℕ
+ops_by (Ok n) terms = n.1
+ops_by (Err f) terms = ops_there terms
+
+-- the cells that were read of a text
+abbrev pub types_read : List ℕ → List TypeCell
+types_read text = let r = reading_of text in take (kinds_by r.answer r.types) r.types
+
+abbrev pub terms_read : List ℕ → List TermCell
+terms_read text = let r = reading_of text in take (ops_by r.answer r.terms) r.terms
+
 -- the verdict by the checker's
 abbrev pub verdict_by : CheckVerdict → Verdict
 verdict_by (Ok u) = Accepted
 verdict_by (Err f) = Refused f
 
--- The reader's refusal, or the checker's verdict on the program that was read; with so many cells.
-abbrev pub Judges : Result (ℕ × ℕ) ReadFault → List TypeCell → List TermCell → Judged → Type 0
-Judges (Err f) types terms j =
-    (j.verdict ≡ Unread f) × (j.kinds ≡ kinds_there types) × (j.ops ≡ ops_there terms)
-Judges (Ok n) types terms j =
-    (j.verdict ≡ verdict_by (program_verdict (take n.0 types) (take n.1 terms)))
-    × (j.kinds ≡ n.0) × (j.ops ≡ n.1)
+-- the reader's refusal, or the checker's verdict on the program that was read
+abbrev pub verdict_after : Result (ℕ × ℕ) ReadFault → List TypeCell → List TermCell → Verdict
+verdict_after (Err f) types terms = Unread f
+verdict_after (Ok n) types terms =
+    verdict_by (program_verdict (take n.0 types) (take n.1 terms))
 
--- A text is judged, and the tables hold what was read.
+abbrev pub verdict_on : List ℕ → Verdict
+verdict_on text = let r = reading_of text in verdict_after r.answer r.types r.terms
+
+-- A text is judged: the verdict is the product's, and the tables hold what was read.
 pub record JudgedAs (text : List ℕ) (j : Judged) : Type 0 where
-  pub judges : let r = reading_of text in Judges r.answer r.types r.terms j
-  pub types : j.types ≡ (reading_of text).types
-  pub terms : j.terms ≡ (reading_of text).terms
+  pub verdict : j.verdict ≡ verdict_on text
+  pub types : take j.kinds j.types ≡ types_read text
+  pub terms : take j.ops j.terms ≡ terms_read text

@@ -1,4 +1,6 @@
 pub mod Bytes
 pub mod Depths
 pub mod Judging
+pub mod Layout
+pub mod Lines
 pub mod Rows

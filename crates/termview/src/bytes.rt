@@ -1,24 +1,28 @@
 //! Bytes as printed characters, and columns of them.
 
-ghost use Rattle.std.specs.Prelude.{◌≡◌, ◌≤◌, ◌++◌, OnOk, decimal, replicate, string_bytes};
+ghost use Rattle.std.specs.Prelude.{◌≡◌, ◌<◌, ◌≤◌, [], ◌∷◌, ◌++◌, OnOk, decimal, replicate, string_bytes};
 ghost use Rattle.std.specs.List.{flat_map};
-ghost use Rattle.termview.specs.Bytes.{coded, cut, left, right, shown_byte};
+ghost use Rattle.termview.specs.Bytes.{coded, cut, digit_of, front, left, right, shown_byte};
 
 use itoa::Buffer;
 use std::alloc::AllocError;
 
-// The digits of base 16.
-const DIGITS: [char; 16] = [
-    '0', '1', '2', '3', '4', '5', '6', '7', '8', '9', 'a', 'b', 'c', 'd', 'e', 'f',
-];
+// Appends a digit of base 16.
+fn push_digit(out: &mut String, digit: u8) -> Result<(), AllocError>
+    requires { digit < 16 }
+    ensures { OnOk result (string_bytes out.new ≡ string_bytes out.old ++ (digit_of digit ∷ [])) }
+{
+    let first = if digit < 10 { b'0' } else { b'a' - 10 };
+    out.push(char::from(first + digit))
+}
 
 // Appends a byte that is no printed character by its number, in base 16.
 fn push_code(out: &mut String, byte: u8) -> Result<(), AllocError>
     ensures { OnOk result (string_bytes out.new ≡ string_bytes out.old ++ coded byte) }
 {
     out.push_str("\\x")?;
-    out.push(DIGITS[(byte / 16) as usize])?;
-    out.push(DIGITS[(byte % 16) as usize])
+    push_digit(out, byte / 16)?;
+    push_digit(out, byte % 16)
 }
 
 // Appends a byte: itself where it is a printed character, and else its escape.
@@ -81,14 +85,23 @@ pub fn push_left(out: &mut String, bytes: &[u8], width: usize) -> Result<(), All
     push_blanks(out, width.saturating_sub(bytes.len()))
 }
 
-/// Appends bytes at the left of a column, cut where they are too many for it.
+/// Appends bytes, cut where they are more than a column has room for.
+pub fn push_front(out: &mut String, bytes: &[u8], width: usize) -> Result<(), AllocError>
+    requires { 3 ≤ width }
+    ensures { OnOk result (string_bytes out.new ≡ string_bytes out.old ++ front width bytes.now) }
+{
+    if bytes.len() <= width {
+        return push_bytes(out, bytes);
+    }
+    push_bytes(out, &bytes[..width - 3])?;
+    out.push_str("...")
+}
+
+/// Appends bytes at the left of a column, cut where they are more than it has room for.
 pub fn push_cut(out: &mut String, bytes: &[u8], width: usize) -> Result<(), AllocError>
     requires { 3 ≤ width }
     ensures { OnOk result (string_bytes out.new ≡ string_bytes out.old ++ cut width bytes.now) }
 {
-    if bytes.len() <= width {
-        return push_left(out, bytes, width);
-    }
-    push_bytes(out, &bytes[..width - 3])?;
-    out.push_str("...")
+    push_front(out, bytes, width)?;
+    push_blanks(out, width.saturating_sub(bytes.len()))
 }

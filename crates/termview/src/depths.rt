@@ -1,6 +1,6 @@
 //! Under how many binders each cell of a term stands.
 
-ghost use Rattle.std.specs.Prelude.{◌≡◌, ◌+◌, ◌*◌, ◌<◌, ◌≤◌, ◌++◌, length, IfOk, OnOk};
+ghost use Rattle.std.specs.Prelude.{◌≡◌, ◌+◌, ◌-◌, ◌*◌, ◌<◌, ◌≤◌, ◌++◌, length, IfOk, OnOk};
 ghost use Rattle.std.specs.List.{flat_map};
 ghost use Rattle.calculus.specs.Reading.{rest, top};
 ghost use Rattle.notation.specs.Terms.{no_term, term_trees};
@@ -20,7 +20,7 @@ fn note_depths<'a>(
     ensures depths { OnOk result (depths.new.items
         ≡ depths.old.items ++ depths_in binders (top no_term (term_trees cells.now))) }
     ensures rest { IfOk result (λ after. term_trees after.now ≡ rest (term_trees cells.now)) }
-    ensures shorter { IfOk result (λ after. length after.now ≤ length cells.now) }
+    ensures shorter { IfOk result (λ after. length after.now ≤ length cells.now - 1) }
 {
     let Some((cell, parts)) = cells.split_first() else {
         return Ok(cells);

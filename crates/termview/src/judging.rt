@@ -4,33 +4,11 @@ ghost use Rattle.std.specs.Prelude.{◌≡◌, ◌≤◌};
 ghost use Rattle.termview.specs.Judging.{JudgedAs, kinds_there, ops_there, verdict_by};
 ghost use Rattle.checker.specs.Accepting.{program_verdict};
 
+use crate::judged::{Judged, Verdict};
 use calculus::{MOST_TERM_CELLS, MOST_TYPE_CELLS, TermCell, TypeCell};
 use checker::check;
-use reader::{ReadFault, read};
+use reader::read;
 use trees::first_failing;
-use verdict::CheckFault;
-
-/// What is said of a text.
-#[derive(Clone, Copy, Drop)]
-pub enum Verdict {
-    /// The reader refuses it, at a line.
-    Unread(ReadFault),
-    /// The checker refuses its program, at a cell.
-    Refused(CheckFault),
-    /// Its program is accepted.
-    Accepted,
-}
-
-/// The cells that were read of a text, and the verdict.
-#[derive(Drop)]
-pub struct Judged {
-    pub verdict: Verdict,
-    pub types: [TypeCell; MOST_TYPE_CELLS],
-    pub kinds: usize,
-    pub terms: [TermCell; MOST_TERM_CELLS],
-    pub ops: usize,
-    ghost within: { (kinds ≤ 256) × (ops ≤ 512) },
-}
 
 // How many type cells there are before the first that no line filled.
 fn kinds_there(types: &[TypeCell]) -> usize
@@ -56,25 +34,44 @@ fn checked(types: &[TypeCell], terms: &[TermCell]) -> Verdict
     }
 }
 
-/// Reads a text, and checks the program that was read.
-pub fn judge(text: &[u8]) -> Judged
-    ensures { JudgedAs text.now result }
+// What is read and said of a text.
+fn judged(
+    verdict: Verdict,
+    types: [TypeCell; MOST_TYPE_CELLS],
+    kinds: usize,
+    terms: [TermCell; MOST_TERM_CELLS],
+    ops: usize,
+) -> Judged
+    requires few_kinds { kinds ≤ 256 }
+    requires few_ops { ops ≤ 512 }
+    ensures verdict { result.verdict ≡ verdict }
+    ensures types { (result.kinds ≡ kinds) × (result.types ≡ types) }
+    ensures terms { (result.ops ≡ ops) × (result.terms ≡ terms) }
 {
-    let mut types = [TypeCell::default(); MOST_TYPE_CELLS];
-    let mut terms = [TermCell::default(); MOST_TERM_CELLS];
-    let (verdict, kinds, ops) = match read(text, &mut types, &mut terms) {
-        Ok((kinds, ops)) => (checked(&types[..kinds], &terms[..ops]), kinds, ops),
-        Err(fault) => (
-            Verdict::Unread(fault),
-            kinds_there(&types),
-            ops_there(&terms),
-        ),
-    };
     Judged {
         verdict,
         types,
         kinds,
         terms,
         ops,
+    }
+}
+
+/// Reads a text, and checks the program that was read.
+pub fn judge(text: &[u8]) -> Judged
+    ensures { JudgedAs text.now result }
+{
+    let mut types = [TypeCell::default(); MOST_TYPE_CELLS];
+    let mut terms = [TermCell::default(); MOST_TERM_CELLS];
+    match read(text, &mut types, &mut terms) {
+        Ok((kinds, ops)) => {
+            let verdict = checked(&types[..kinds], &terms[..ops]);
+            judged(verdict, types, kinds, terms, ops)
+        }
+        Err(fault) => {
+            let kinds = kinds_there(&types);
+            let ops = ops_there(&terms);
+            judged(Verdict::Unread(fault), types, kinds, terms, ops)
+        }
     }
 }

@@ -2,7 +2,9 @@
 #![tactic(auto)]
 
 mod bytes;
+mod cells;
 mod depths;
+mod judged;
 mod judging;
 mod layout;
 mod lines;
@@ -10,7 +12,8 @@ mod rows;
 mod rules;
 mod sentences;
 mod unread;
-mod view;
+mod viewing;
 
-pub use judging::{Judged, Verdict, judge};
-pub use view::view;
+pub use judged::{Judged, Verdict};
+pub use judging::judge;
+pub use viewing::view;

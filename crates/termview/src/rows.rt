@@ -1,9 +1,11 @@
 //! The table: a row for each cell of a term.
 
-ghost use Rattle.std.specs.Prelude.{◌≡◌, ◌<◌, ◌≤◌, ◌++◌, length, OnOk, string_bytes};
-ghost use Rattle.termview.specs.Rows.{claim_text, letter_text, mark_text, row_text, rows_text};
+ghost use Rattle.std.specs.Prelude.{◌≡◌, ◌<◌, ◌≤◌, ◌++◌, get_or, length, OnOk, string_bytes};
+ghost use Rattle.termview.specs.Rows.{claim_text, is_marked, letter_text, mark_text, place_text, row_text, rows_text, term_shown};
+ghost use Rattle.termview.specs.Bytes.{cut, left};
 
 use crate::bytes::{push_blanks, push_cut, push_left, push_number, push_right};
+use crate::cells::Cells;
 use crate::depths::depths;
 use calculus::{TermCell, TypeCell};
 use notation::{Around, push_term, push_type};
@@ -17,24 +19,6 @@ const LINE_WIDTH: usize = 6;
 const LETTER_WIDTH: usize = 8;
 
 const TERM_WIDTH: usize = 46;
-
-/// The cells of a program.
-#[derive(Clone, Copy, Drop)]
-pub struct Cells<'a> {
-    pub types: &'a [TypeCell],
-    pub terms: &'a [TermCell],
-    ghost within: { (length types.now ≤ 256) × (length terms.now ≤ 512) },
-}
-
-impl<'a> Cells<'a> {
-    /// The line of a cell of the term.
-    pub fn line(self, cell: usize) -> usize
-        requires { cell ≤ 512 }
-        ensures { result ≡ cell + 2 + length self.types.now }
-    {
-        cell + 2 + self.types.len()
-    }
-}
 
 // Appends the letter of a cell, with its argument where the letter has one.
 fn push_letter(out: &mut String, cell: TermCell) -> Result<(), AllocError>
@@ -65,8 +49,45 @@ fn push_mark(out: &mut String, is_marked: bool) -> Result<(), AllocError>
     out.push_str(if is_marked { ">>>" } else { "   " })
 }
 
-/// Appends the row of a cell: its number, line and letter, the term that begins there, and the type
-/// that it claims.
+// Appends the first columns of a row: its mark, and the number and the line of its cell.
+fn push_place(out: &mut String, cell: usize, line: usize, is_marked: bool) -> Result<(), AllocError>
+    ensures { OnOk result (string_bytes out.new
+        ≡ string_bytes out.old ++ place_text cell line is_marked) }
+{
+    push_mark(out, is_marked)?;
+    push_right(out, cell, CELL_WIDTH)?;
+    push_right(out, line, LINE_WIDTH)?;
+    push_blanks(out, 2)
+}
+
+// Appends the column of a cell's letter.
+fn push_letter_column(out: &mut String, alloc: Global, cell: TermCell) -> Result<(), AllocError>
+    ensures { OnOk result (string_bytes out.new
+        ≡ string_bytes out.old ++ left 8 (letter_text cell)) }
+{
+    let mut letter = String::new(alloc);
+    push_letter(&mut letter, cell)?;
+    push_left(out, letter.as_bytes(), LETTER_WIDTH)
+}
+
+// Appends the column of the term that the cells begin with.
+fn push_term_column(
+    out: &mut String,
+    alloc: Global,
+    cells: &[TermCell],
+    binders: u16,
+) -> Result<(), AllocError>
+    requires { length cells.now ≤ 512 }
+    ensures { OnOk result (string_bytes out.new
+        ≡ string_bytes out.old ++ cut 46 (term_shown cells.now binders)) }
+{
+    let mut term = String::new(alloc);
+    push_term(&mut term, cells, binders as usize, Around::Open)?;
+    push_cut(out, term.as_bytes(), TERM_WIDTH)
+}
+
+// Appends the row of a cell: its number, line and letter, the term that begins there, and the type
+// that it claims.
 fn push_row(
     out: &mut String,
     alloc: Global,
@@ -76,28 +97,33 @@ fn push_row(
     is_marked: bool,
 ) -> Result<(), AllocError>
     requires { at < length cells.terms.now }
-    ensures { OnOk result (string_bytes out.new
-        ≡ string_bytes out.old ++ row_text cells at binders is_marked) }
+    ensures { OnOk result (string_bytes out.new ≡ string_bytes out.old
+        ++ row_text cells.entry.types.now cells.entry.terms.now at binders is_marked) }
 {
     let cell = cells.terms[at];
-    let mut letter = String::new(alloc);
-    push_letter(&mut letter, cell)?;
-    let mut term = String::new(alloc);
-    push_term(
-        &mut term,
-        &cells.terms[at..],
-        binders as usize,
-        Around::Open,
-    )?;
-    push_mark(out, is_marked)?;
-    push_right(out, at, CELL_WIDTH)?;
-    push_right(out, cells.line(at), LINE_WIDTH)?;
-    push_blanks(out, 2)?;
-    push_left(out, letter.as_bytes(), LETTER_WIDTH)?;
-    push_cut(out, term.as_bytes(), TERM_WIDTH)?;
+    push_place(out, at, cells.line(at), is_marked)?;
+    push_letter_column(out, alloc, cell)?;
+    push_term_column(out, alloc, &cells.terms[at..], binders)?;
     push_blanks(out, 2)?;
     push_claim(out, cells.types, cell.claim as usize)?;
     out.push_str("\n")
+}
+
+// How many binders are around a cell, by the table of them.
+fn depth_of(depths: &[u16], at: usize) -> u16
+    ensures { result ≡ get_or depths.now at 0 }
+{
+    depths.get(at).copied().unwrap_or(0)
+}
+
+// Whether this is the cell that is marked.
+fn is_this(marked: Option<usize>, at: usize) -> bool
+    ensures { result ≡ is_marked marked at }
+{
+    match marked {
+        Some(cell) => cell == at,
+        None => false,
+    }
 }
 
 /// Appends the rows of all cells, one of them marked maybe.
@@ -108,12 +134,12 @@ pub fn push_rows(
     marked: Option<usize>,
 ) -> Result<(), AllocError>
     ensures { OnOk result (string_bytes out.new
-        ≡ string_bytes out.old ++ rows_text cells marked) }
+        ≡ string_bytes out.old ++ rows_text cells.entry.types.now cells.entry.terms.now marked) }
 {
     let depths = depths(alloc, cells.terms)?;
     for at in 0..cells.terms.len() {
-        let binders = depths.get(at).copied().unwrap_or(0);
-        push_row(out, alloc, cells, at, binders, marked == Some(at))?;
+        let binders = depth_of(&depths, at);
+        push_row(out, alloc, cells, at, binders, is_this(marked, at))?;
     }
     Ok(())
 }

@@ -1,8 +1,8 @@
 //! The verdict, with sentences on what it means.
 
 use crate::bytes::push_number;
-use crate::judging::Verdict;
-use crate::rows::Cells;
+use crate::cells::Cells;
+use crate::judged::Verdict;
 use crate::rules::rule_of;
 use crate::unread::push_unread;
 use notation::{Around, push_type};
@@ -68,9 +68,9 @@ fn meaning(fault: CheckFault, cells: Cells<'_>, op: char) -> &'static str {
 fn push_outside(out: &mut String, claim: usize, kinds: usize) -> Result<(), AllocError> {
     out.push_str("it claims place ")?;
     push_number(out, claim)?;
-    out.push_str(", and there are ")?;
+    out.push_str(", counted from 0; the number of T lines is ")?;
     push_number(out, kinds)?;
-    out.push_str(" T lines, counted from 0\n")
+    out.push_str("\n")
 }
 
 // Appends what the checker refuses, and why.

@@ -1,8 +1,8 @@
 //! What the reader refuses, with the line at fault and sentences on what is wrong with it.
 
-use crate::bytes::{push_bytes, push_number};
-use crate::lines::{Line, line_of};
-use crate::rows::Cells;
+use crate::bytes::{push_front, push_number};
+use crate::cells::Cells;
+use crate::lines::{Line, line_after};
 use reader::{ReadFault, ReadReason};
 use std::alloc::AllocError;
 
@@ -76,12 +76,7 @@ fn push_line(out: &mut String, line: Line<'_>, number: usize) -> Result<(), Allo
     out.push_str(">>> line ")?;
     push_number(out, number)?;
     out.push_str(": ")?;
-    if line.bytes.len() <= MOST_SHOWN {
-        push_bytes(out, line.bytes)?;
-    } else {
-        push_bytes(out, &line.bytes[..MOST_SHOWN])?;
-        out.push_str("...")?;
-    }
+    push_front(out, line.bytes, MOST_SHOWN)?;
     out.push_str("\n")
 }
 
@@ -92,7 +87,7 @@ pub fn push_unread(
     cells: Cells<'_>,
     fault: ReadFault,
 ) -> Result<(), AllocError> {
-    let line = line_of(text, fault.line);
+    let line = line_after(text, fault.line.saturating_sub(1));
     out.push_str("refused by ")?;
     push_number(out, fault.number() as usize)?;
     out.push_str(" at line ")?;

@@ -1,8 +1,11 @@
 //! The whole view.
 
-use crate::judging::{Judged, Verdict, judge};
+ghost use Rattle.std.specs.Prelude.{◌≤◌, length};
+
+use crate::cells::Cells;
+use crate::judging::judge;
 use crate::layout::push_laid;
-use crate::rows::{Cells, push_rows};
+use crate::rows::push_rows;
 use crate::sentences::{push_verdict, refused_cell};
 use calculus::TermCell;
 use notation::{Around, push_term};
