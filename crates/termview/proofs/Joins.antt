@@ -1,8 +1,11 @@
 -- Texts that are appended one after the other.
-use Rattle.std.proofs.Common.{◌≡◌, ℕ, ◌+◌, Bool, cond, List, ◌++◌, Option, Ok, Err, Result, OnOk, is_ok, get_or, append_assoc, add-one, sym, ap, ◌∙◌}
+use Rattle.std.proofs.Common.{◌<◌, [], ◌∷◌, length, codes, arith, ◌≡◌, ℕ, ◌+◌, Bool, cond, List, ◌++◌, Option, Ok, Err, Result, OnOk, is_ok, get_or, append_assoc, add-one, sym, ap, ◌∙◌}
 use Rattle.calculus.specs.declared.cells.TermCell.{TermCell}
 use Rattle.calculus.specs.declared.cells.TypeCell.{TypeCell}
-use Rattle.termview.specs.Rows.{depths, is_marked, row_text, rows_before}
+use Rattle.notation.specs.Terms.{term_trees}
+use Rattle.termview.specs.Layout.{TermsLaid}
+use Rattle.termview.specs.View.{TableOf}
+use Rattle.termview.specs.Rows.{rows_text, depths, is_marked, row_text, rows_before}
 
 -- what follows where all went well
 pub on_ok : {A E : Type 0} {P Q : Type 0} (r : Result A E) → (P → Q) → OnOk r P → OnOk r Q
@@ -35,3 +38,18 @@ row_more types terms marked at b m old new newer e f g h =
     ∙ append_assoc old (rows_before types terms at marked) (row_text types terms at b m)
     ∙ ap (λ x. old ++ (rows_before types terms at marked ++ x)) (ap (λ k. row_text types terms at k m) e ∙ ap (row_text types terms at (get_or (depths types terms) at 0)) f)
     ∙ ap (λ k. old ++ rows_before types terms k marked) (sym (add-one at))
+
+-- a table in its parts
+pub table_shown : (types : List TypeCell) (terms : List TermCell) (marked : Option ℕ) (o o1 o2 o3 o4 o5 o6 laid : List ℕ)
+    → 0 < length terms → o1 ≡ o ++ codes "term\n" → o2 ≡ o1 ++ laid → o3 ≡ o2 ++ codes "\n    cell  line  letter  term"
+    → o4 ≡ o3 ++ codes "                                            claims\n" → o5 ≡ o4 ++ rows_text types terms marked → o6 ≡ o5 ++ codes "\n"
+    → TermsLaid (term_trees terms) laid → TableOf types terms marked o o6
+table_shown types [] marked o o1 o2 o3 o4 o5 o6 laid n e1 e2 e3 e4 e5 e6 h = absurd (omega (arith, n))
+table_shown types (c ∷ cs) marked o o1 o2 o3 o4 o5 o6 laid n e1 e2 e3 e4 e5 e6 h = record {
+  laid = laid;
+  lines = h;
+  text =
+      six o o1 o2 o3 o4 o5 o6 (codes "term\n") laid (codes "\n    cell  line  letter  term") (codes "                                            claims\n") (rows_text types (c ∷ cs) marked) (codes "\n") e1 e2 e3 e4 e5 e6
+      ∙ ap (λ x. o ++ (codes "term\n" ++ (laid ++ x)))
+      (sym (append_assoc (codes "\n    cell  line  letter  term") (codes "                                            claims\n") (rows_text types (c ∷ cs) marked ++ codes "\n")));
+}

@@ -1,6 +1,8 @@
 -- A text on lines of a page's width.
-use Rattle.std.specs.Prelude.{◌≡◌, ℕ, ◌+◌, ◌≤◌, ◌⊎◌, List, ◌∷◌, ◌++◌, codes, length, replicate}
+use Rattle.std.specs.Prelude.{◌≡◌, ℕ, ◌+◌, ◌≤◌, ◌⊎◌, List, [], ◌∷◌, ◌++◌, codes, length, replicate}
 use Rattle.std.specs.List.{flat_map}
+use Rattle.notation.specs.Terms.{TermTree, term_text}
+use Rattle.notation.specs.declared.brackets.Around.TheVariants.{Open}
 use Rattle.termview.specs.Bytes.{shown_byte}
 
 -- a line, and byte 10 after it
@@ -19,3 +21,10 @@ pub data LaidAs : List ℕ → List ℕ → Type 0 where
   more : (indent : ℕ) (line text rest laid : List ℕ) → indent + length line ≤ 100
       → Behind text rest → LaidAs rest laid
       → LaidAs (line ++ text) (laid_line indent line ++ laid)
+
+-- Terms stand on lines, one after the other.
+abbrev pub TermsLaid : List TermTree → List ℕ → Type 0
+TermsLaid [] laid = laid ≡ []
+TermsLaid (t ∷ ts) laid =
+    (first : List ℕ) × ((others : List ℕ)
+    × ((laid ≡ first ++ others) × (LaidAs (term_text 0 Open t) first × TermsLaid ts others)))

@@ -4,3 +4,5 @@ pub mod Judging
 pub mod Layout
 pub mod Lines
 pub mod Rows
+pub mod Verdicts
+pub mod View

@@ -8,10 +8,11 @@ mod judged;
 mod judging;
 mod layout;
 mod lines;
+mod misread;
+mod reasons;
 mod rows;
 mod rules;
-mod sentences;
-mod unread;
+mod verdicts;
 mod viewing;
 
 pub use judged::{Judged, Verdict};

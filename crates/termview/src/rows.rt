@@ -32,8 +32,8 @@ fn push_letter(out: &mut String, cell: TermCell) -> Result<(), AllocError>
     Ok(())
 }
 
-// Appends the type that begins at a place.
-fn push_claim(out: &mut String, types: &[TypeCell], claim: usize) -> Result<(), AllocError>
+/// Appends the type that begins at a place.
+pub fn push_claim(out: &mut String, types: &[TypeCell], claim: usize) -> Result<(), AllocError>
     ensures { OnOk result (string_bytes out.new
         ≡ string_bytes out.old ++ claim_text types.now claim) }
 {
