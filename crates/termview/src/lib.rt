@@ -12,6 +12,8 @@ mod misread;
 mod reasons;
 mod rows;
 mod rules;
+#[cfg(test)]
+mod tests;
 mod verdicts;
 mod viewing;
 

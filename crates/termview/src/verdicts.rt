@@ -73,13 +73,14 @@ fn push_unread(out: &mut String, text: &[u8], fault: ReadFault) -> Result<(), Al
     ensures { OnOk result (string_bytes out.new
         ≡ string_bytes out.old ++ unread_text fault text.now) }
 {
-    let line = line_after(text, fault.line.saturating_sub(1));
+    let ReadFault { reason, line } = fault;
+    let shown = line_after(text, line.saturating_sub(1));
     out.push_str("refused by ")?;
-    push_number(out, fault.number() as usize)?;
+    push_number(out, reason.number() as usize)?;
     out.push_str(" at line ")?;
-    push_number(out, fault.line)?;
+    push_number(out, line)?;
     out.push_str("\n>>> ")?;
-    push_front(out, line.bytes, MOST_SHOWN)?;
+    push_front(out, shown.bytes, MOST_SHOWN)?;
     out.push_str("\n")
 }
 
