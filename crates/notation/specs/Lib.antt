@@ -1,0 +1,4 @@
+pub mod Brackets
+pub mod Leaves
+pub mod Terms
+pub mod Types

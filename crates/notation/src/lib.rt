@@ -1,0 +1,11 @@
+//! Types and terms as they are written on paper, from the cells of tables, damaged ones too.
+#![tactic(auto)]
+
+mod brackets;
+mod leaves;
+mod terms;
+mod types;
+
+pub use brackets::Around;
+pub use terms::push_term;
+pub use types::push_type;

@@ -1,0 +1,4 @@
+pub mod Joins
+pub mod Laying
+pub mod Pieces
+pub mod Tables
