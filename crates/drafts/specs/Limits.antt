@@ -57,7 +57,8 @@ padded_function n = lam 7 (padded_bit (n - 1))
 -- what is written before the term within: so many identities applied, and so many uses
 abbrev pub wraps : ℕ → List TermCell
 wraps zero = []
-wraps (suc n) = wraps n ++ (cell_of op_application 0 0 ∷ cell_of op_function 0 1 ∷ cell_of op_variable 0 0 ∷ [])
+wraps (suc n) = wraps n
+    ++ (cell_of op_application 0 0 ∷ cell_of op_function 0 1 ∷ cell_of op_variable 0 0 ∷ [])
 
 abbrev pub calls : ℕ → ℕ → List TermCell
 calls i zero = []

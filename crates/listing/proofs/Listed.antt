@@ -38,7 +38,8 @@ use Rattle.listing.proofs.Journal.{entries, turns_keep}
 use Rattle.listing.proofs.Played.{three}
 use Rattle.listing.specs.Replies.{run_report, Reports}
 use Rattle.listing.specs.declared.replies.RunReport.{RunReport}
-use Rattle.listing.specs.Playing.{alternating, shot_of_report, Loads, RowOfShot, fresh_stage, reading_of, CellsPlayed, ReadAndPlayed, TextPlayed}
+use Rattle.listing.specs.Playing.{alternating, shot_of_report, Loads, RowOfShot, fresh_stage, CellsPlayed, ReadAndPlayed, TextPlayed}
+use Rattle.reader.specs.Reading.{reading_of}
 
 -- a stage's tables and journal, by what its tape means
 pub record Ended (end : Stage Tape) (b : Stage (Meaning Reel)) : Type 0 where

@@ -15,7 +15,8 @@ use Rattle.registers.specs.contracts.tape.TapeRegister.TheImpl.{ghosts}
 use Rattle.arrayvec.specs.ArrayVec.{ArrayVec}
 use Rattle.registers.specs.Journal.{tape_reel}
 use Rattle.registers.specs.declared.journal.Entry.{Entry}
-use Rattle.listing.specs.Playing.{RowOfShot, shot_of_report, reading_of}
+use Rattle.listing.specs.Playing.{RowOfShot, shot_of_report}
+use Rattle.reader.specs.Reading.{reading_of}
 use Rattle.listing.specs.declared.replies.RunReport.{RunReport}
 use Rattle.listing.specs.declared.shots.Shot.TheVariants.{Ran}
 

@@ -24,7 +24,7 @@ use Rattle.controller.specs.Shots.{nothing_held, root_claim}
 use Rattle.listing.specs.Listing.{call, code_of, with_dashes, pulse_line, pulse_lines, refusal_line, run_lines, steps_line, stop_lines}
 use Rattle.listing.proofs.Ending.{Ends, EndsBy, run_ends, value_meant}
 use Rattle.listing.specs.Listed.{pulses_of, start_of_run, lines_of_run, lines_after_load, lines_after_check, lines_after_read, lines_of_text}
-use Rattle.listing.specs.Playing.{reading_of}
+use Rattle.reader.specs.Reading.{reading_of}
 use Rattle.listing.specs.Shapes.{TellsCell, Shape, not_loaded, at_value, at_budget, at_refusal}
 
 -- the shape of a run's listing, by how the run ends

@@ -25,7 +25,8 @@ use Rattle.controller.specs.Settled.{run_of}
 use Rattle.controller.specs.Shots.{nothing_held, program_held}
 use Rattle.listing.specs.Lines.{text_of}
 use Rattle.listing.specs.Listing.{before_empty, refusal_line, run_lines}
-use Rattle.listing.specs.Playing.{alternating, reading_of}
+use Rattle.reader.specs.Reading.{reading_of}
+use Rattle.listing.specs.Playing.{alternating}
 use Rattle.listing.specs.declared.shots.TheConstants.{BUDGET, CAPACITY, MOST_BYTES, PULSES}
 
 -- the lines of a listing, each by its fields

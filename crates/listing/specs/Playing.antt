@@ -14,7 +14,7 @@ use Rattle.registers.specs.declared.register.Register.{Ghosts}
 use Rattle.registers.specs.declared.tape.Tape.{Tape}
 use Rattle.registers.specs.declared.journal.Entry.TheVariants.{Empty}
 use Rattle.reader.specs.Faults.{number_of as read_number}
-use Rattle.reader.specs.Reading.{Outcome, reading}
+use Rattle.reader.specs.Reading.{reading_of}
 use Rattle.reader.specs.declared.faults.ReadFault.{ReadFault}
 use Rattle.controller.specs.Faults.{fault_number}
 use Rattle.controller.specs.Shots.{nothing_held}
@@ -33,12 +33,6 @@ use Rattle.listing.specs.declared.shots.Shot.TheVariants.{Refused, Ran}
 -- outcome k is k mod 2
 abbrev pub alternating : ℕ → List ℕ
 alternating count = map (λ k. k % 2) (range_with_len 0 count)
-
--- what is read of a text into new tables
-abbrev pub reading_of : List ℕ → Outcome
-reading_of text =
-    reading text (replicate MOST_TYPE_CELLS (kind_cell 0))
-    (replicate MOST_TERM_CELLS blank)
 
 -- refused by the checker, at a cell, or by a call
 abbrev pub shot_of_fault : TurnFault → Shot

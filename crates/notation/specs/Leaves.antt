@@ -1,5 +1,8 @@
 -- The notation of a term's leaves.
-use Rattle.std.specs.Prelude.{ℕ, ◌+◌, ◌-◌, cond, List, [], ◌∷◌, ◌++◌, Option, Some, None, codes, decimal, get_or, nat_lt, ◌==◌}
+use Rattle.std.specs.Prelude.{ℕ, ◌+◌, ◌-◌, cond, List, [], ◌∷◌, ◌++◌, Option, Some, None, codes}
+use Rattle.std.specs.Prelude.{decimal, get_or, nat_lt, ◌==◌}
+use Rattle.calculus.specs.Alphabet.{op_variable, op_qubit, op_gate, op_zero, op_one, op_measure}
+use Rattle.calculus.specs.Alphabet.{op_new, op_unit}
 use Rattle.calculus.specs.Gates.{gate_of}
 use Rattle.calculus.specs.declared.cells.TermCell.{TermCell}
 use Rattle.calculus.specs.declared.gates.Gate.{Gate}
@@ -9,7 +12,8 @@ use Rattle.calculus.specs.declared.gates.Gate.TheVariants.{H, X, Z, S, T, Cnot, 
 abbrev pub names : List ℕ
 names = codes "xyzuvwfghabcde"
 
--- a binder with so many around it: the next of the names, and after the last of them x with that number
+-- a binder with so many around it: the next of the names, and after the last of them x with that
+-- number
 abbrev pub binder : ℕ → List ℕ
 binder level = cond (nat_lt level 14) (get_or names level 0 ∷ []) (codes "x" ++ decimal level)
 
@@ -40,11 +44,11 @@ qubit_text handle = codes "|" ++ (decimal handle ++ codes ">")
 -- a leaf under so many binders, by its letter: v, g, q, m, n, s, 0, 1
 abbrev pub leaf_text : ℕ → TermCell → List ℕ
 leaf_text binders c =
-    cond (c.op == 118) (variable_text binders c.argument)
-    (cond (c.op == 103) (gate_text c.argument)
-    (cond (c.op == 113) (qubit_text c.argument)
-    (cond (c.op == 109) (codes "meas")
-    (cond (c.op == 110) (codes "new")
-    (cond (c.op == 115) (codes "*")
-    (cond (c.op == 48) (codes "0")
-    (cond (c.op == 49) (codes "1") (codes "?"))))))))
+    cond (c.op == op_variable) (variable_text binders c.argument)
+    (cond (c.op == op_gate) (gate_text c.argument)
+    (cond (c.op == op_qubit) (qubit_text c.argument)
+    (cond (c.op == op_measure) (codes "meas")
+    (cond (c.op == op_new) (codes "new")
+    (cond (c.op == op_unit) (codes "*")
+    (cond (c.op == op_zero) (codes "0")
+    (cond (c.op == op_one) (codes "1") (codes "?"))))))))

@@ -50,7 +50,8 @@ term_text binders around (function m) =
 term_text binders around (application m n) =
     bracketed (tight around) (term_text binders Head m ++ (codes " " ++ term_text binders Tight n))
 term_text binders around (pair m n) =
-    codes "<" ++ (term_text binders Open m ++ (codes ", " ++ (term_text binders Open n ++ codes ">")))
+    codes "<" ++ (term_text binders Open m ++ (codes ", "
+    ++ (term_text binders Open n ++ codes ">")))
 term_text binders around (let_pair m n) =
     bracketed (wide around)
     (let_head binders

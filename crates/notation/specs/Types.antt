@@ -1,5 +1,6 @@
 -- The notation of types.
 use Rattle.std.specs.Prelude.{ℕ, cond, List, [], ◌∷◌, ◌++◌, codes, ◌==◌}
+use Rattle.calculus.specs.Alphabet.{kind_bit, kind_qubit, kind_unit, kind_bang, kind_arrow, kind_pair}
 use Rattle.calculus.specs.Reading.{rest, top}
 use Rattle.calculus.specs.declared.cells.TypeCell.{TypeCell}
 use Rattle.notation.specs.declared.brackets.Around.{Around}
@@ -17,9 +18,9 @@ pub data TypeTree : Type 0 where
 -- a cell, by its letter, before cells that make the types ts: !, >, *
 abbrev pub with_kind : ℕ → List TypeTree → List TypeTree
 with_kind k ts =
-    cond (k == 33) (marked (top no_type ts) ∷ rest ts)
-    (cond (k == 62) (arrow (top no_type ts) (top no_type (rest ts)) ∷ rest (rest ts))
-    (cond (k == 42) (tensor (top no_type ts) (top no_type (rest ts)) ∷ rest (rest ts))
+    cond (k == kind_bang) (marked (top no_type ts) ∷ rest ts)
+    (cond (k == kind_arrow) (arrow (top no_type ts) (top no_type (rest ts)) ∷ rest (rest ts))
+    (cond (k == kind_pair) (tensor (top no_type ts) (top no_type (rest ts)) ∷ rest (rest ts))
     (plain k ∷ ts)))
 
 -- the types that the cells make, one after the other
@@ -30,9 +31,9 @@ type_trees (c ∷ cs) = with_kind c.kind (type_trees cs)
 -- b, q, u
 abbrev pub plain_text : ℕ → List ℕ
 plain_text k =
-    cond (k == 98) (codes "bit")
-    (cond (k == 113) (codes "qbit")
-    (cond (k == 117) (codes "unit") (codes "?")))
+    cond (k == kind_bit) (codes "bit")
+    (cond (k == kind_qubit) (codes "qbit")
+    (cond (k == kind_unit) (codes "unit") (codes "?")))
 
 -- `!` binds tighter than `*`, and `*` tighter than `->`, which groups to the right
 abbrev pub type_text : Around → TypeTree → List ℕ

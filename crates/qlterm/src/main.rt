@@ -2,7 +2,8 @@
 //! what is said of it.
 #![tactic(auto)]
 
-ghost use Rattle.std.specs.Prelude.{◌≤◌, ◌≡◌, ℕ, drop, take, IfOk, IfSome, OnOk, OnErr, Some, string_bytes};
+ghost use Rattle.std.specs.Prelude.{◌≤◌, ◌≡◌, ℕ, drop, take, IfOk, IfSome, OnOk, OnErr, Some};
+ghost use Rattle.std.specs.Prelude.{string_bytes};
 ghost use Rattle.listing.specs.Listed.{most_bytes};
 ghost use Rattle.termview.specs.View.{ViewOf};
 

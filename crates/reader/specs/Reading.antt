@@ -1,6 +1,8 @@
 -- How a stored program is read: line by line, to an answer and both tables.
-use Rattle.std.specs.Prelude.{ℕ, ◌+◌, ◌-◌, Bool, cond, ◌&&◌, List, [], ◌∷◌, Ok, Err, Result, ◌==◌}
+use Rattle.std.specs.Prelude.{ℕ, ◌+◌, ◌-◌, Bool, cond, ◌&&◌, List, [], ◌∷◌, replicate, ◌==◌}
+use Rattle.std.specs.Prelude.{Ok, Err, Result}
 use Rattle.calculus.specs.declared.limits.TheConstants.{MOST_TYPE_CELLS, MOST_TERM_CELLS}
+use Rattle.calculus.specs.Cells.{blank}
 use Rattle.calculus.specs.declared.cells.TermCell.{TermCell}
 use Rattle.calculus.specs.declared.cells.TypeCell.{TypeCell}
 use Rattle.reader.specs.declared.faults.ReadFault.{ReadFault}
@@ -42,7 +44,8 @@ abbrev pub with_kind : Place → Result TypeCell ReadReason → List TypeCell �
     → Left (Result Place ReadReason)
 with_kind p (Err e) ts ms = left (Err e) ts ms
 with_kind p (Ok c) ts ms =
-    left (to_kinds p (next_place MOST_TYPE_CELLS ts p.kinds)) (with_cell MOST_TYPE_CELLS ts p.kinds c) ms
+    left (to_kinds p (next_place MOST_TYPE_CELLS ts p.kinds))
+    (with_cell MOST_TYPE_CELLS ts p.kinds c) ms
 
 -- the place, once an op cell has its own
 abbrev pub to_ops : Place → Result ℕ ReadReason → Result Place ReadReason
@@ -53,7 +56,9 @@ to_ops p (Ok n) = Ok (record { section = p.section; kinds = p.kinds; ops = n })
 abbrev pub with_op : Place → Result TermCell ReadReason → List TypeCell → List TermCell
     → Left (Result Place ReadReason)
 with_op p (Err e) ts ms = left (Err e) ts ms
-with_op p (Ok c) ts ms = left (to_ops p (next_place MOST_TERM_CELLS ms p.ops)) ts (with_cell MOST_TERM_CELLS ms p.ops c)
+with_op p (Ok c) ts ms =
+    left (to_ops p (next_place MOST_TERM_CELLS ms p.ops)) ts
+    (with_cell MOST_TERM_CELLS ms p.ops c)
 
 -- a line that its section allows
 abbrev pub allowed_line : Place → Said → List TypeCell → List TermCell
@@ -124,3 +129,9 @@ reads (line ∷ next ∷ lines) due p ts ms =
 -- what reading a text leaves
 abbrev pub reading : List ℕ → List TypeCell → List TermCell → Outcome
 reading text ts ms = reads (pieces 10 text) 1 start ts ms
+
+-- what is read of a text into new tables
+abbrev pub reading_of : List ℕ → Outcome
+reading_of text =
+    reading text (replicate MOST_TYPE_CELLS (record { kind = 0 }))
+    (replicate MOST_TERM_CELLS blank)

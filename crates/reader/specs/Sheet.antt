@@ -98,9 +98,11 @@ module _ (ls : List (List ℕ)) where
     no_count : {k : ℕ} (l f g : List ℕ) → Ended k l → said l ≡ counts f g
         → (number_in f ≡ None) ⊎ (number_in g ≡ None) → Row types terms numbers k
     no_room_for_type : {k : ℕ} (l f : List ℕ) → Ended k l → said l ≡ kind f
-        → (MOST_TYPE_CELLS ≤ before says_kind k) ⊎ (types ≤ before says_kind k) → Row types terms room k
+        → (MOST_TYPE_CELLS ≤ before says_kind k) ⊎ (types ≤ before says_kind k)
+        → Row types terms room k
     no_room_for_term : {k : ℕ} (l f g h : List ℕ) → Ended k l → said l ≡ term f g h
-        → (MOST_TERM_CELLS ≤ before says_term k) ⊎ (terms ≤ before says_term k) → Row types terms room k
+        → (MOST_TERM_CELLS ≤ before says_term k) ⊎ (terms ≤ before says_term k)
+        → Row types terms room k
     other_counts : {k : ℕ} (l f g : List ℕ) (m n : ℕ) → Ended k l → said l ≡ counts f g
         → number_in f ≡ Some m → number_in g ≡ Some n → Rest (k + 1) []
         → (m ≢ before says_kind k) ⊎ (n ≢ before says_term k) → Row types terms agreement k

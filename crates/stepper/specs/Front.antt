@@ -15,7 +15,8 @@ pub record Puts {A : Type 0} (answer : Option A) (old new : Front)
     (cs : List TermCell) : Type 0 where
   pub same : new.table.ghost_name ≡ old.table.ghost_name
   pub count : option_map (λ (x : A). new.len) answer ≡ put_count old.len cs
-  pub table : new.table.now ≡ overlaid old.table.now old.len (take (MOST_RUNNING_CELLS - old.len) cs)
+  pub table : new.table.now
+      ≡ overlaid old.table.now old.len (take (MOST_RUNNING_CELLS - old.len) cs)
 
 -- what stands for the trees that the cells begin with is put, one tree for each number of binders
 -- around it, and the answer is the cells after them

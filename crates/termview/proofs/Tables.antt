@@ -8,7 +8,8 @@ use Rattle.reader.specs.declared.faults.ReadFault.{ReadFault}
 use Rattle.checker.specs.Accepting.{program_verdict}
 use Rattle.trees.specs.Failing.{first_failing}
 use Rattle.termview.specs.declared.judged.Judged.{Judged}
-use Rattle.termview.specs.Judging.{JudgedAs, kinds_by, kinds_there, ops_by, ops_there, or_length, reading_of, terms_read, types_read, verdict_after, verdict_by, verdict_on}
+use Rattle.reader.specs.Reading.{reading_of}
+use Rattle.termview.specs.Judging.{JudgedAs, kinds_by, kinds_there, ops_by, ops_there, or_length, terms_read, types_read, verdict_after, verdict_by, verdict_on}
 use Rattle.termview.specs.declared.judged.Verdict.{Verdict}
 use Rattle.termview.specs.declared.judged.Verdict.TheVariants.{Unread}
 

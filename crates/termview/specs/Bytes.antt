@@ -1,5 +1,6 @@
 -- Bytes as printed characters, and columns of them.
-use Rattle.std.specs.Prelude.{ℕ, ◌+◌, ◌-◌, ◌/◌, ◌%◌, cond, ◌&&◌, List, [], ◌∷◌, ◌++◌, codes, decimal, length, nat_le, nat_lt, replicate, take, ◌==◌}
+use Rattle.std.specs.Prelude.{ℕ, ◌+◌, ◌-◌, ◌/◌, ◌%◌, cond, ◌&&◌, List, [], ◌∷◌, ◌++◌, codes}
+use Rattle.std.specs.Prelude.{decimal, length, nat_le, nat_lt, replicate, take, ◌==◌}
 use Rattle.std.specs.List.{flat_map}
 
 -- a digit of base 16

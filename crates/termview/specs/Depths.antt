@@ -1,6 +1,7 @@
 -- Under how many binders the cells of a term stand.
 use Rattle.std.specs.Prelude.{ℕ, ◌+◌, List, [], ◌∷◌, ◌++◌}
-use Rattle.notation.specs.Terms.{TermTree, no_term, leaf, function, application, pair, let_pair, condition}
+use Rattle.notation.specs.Terms.{TermTree, no_term, leaf, function, application, pair, let_pair}
+use Rattle.notation.specs.Terms.{condition}
 
 -- the binders around each cell of a term that stands under so many
 abbrev pub depths_in : ℕ → TermTree → List ℕ

@@ -1,9 +1,9 @@
 -- What the product says of a text: the answers of its reader and of its checker.
-use Rattle.std.specs.Prelude.{◌≡◌, ℕ, not, List, length, take, replicate, Ok, Err, Result, Option, Some, None, ◌==◌}
-use Rattle.calculus.specs.Cells.{blank, kind_cell}
+use Rattle.std.specs.Prelude.{◌≡◌, ℕ, ◌==◌, not, List, length, take}
+use Rattle.std.specs.Prelude.{Ok, Err, Result, Option, Some, None}
 use Rattle.calculus.specs.declared.cells.TermCell.{TermCell}
 use Rattle.calculus.specs.declared.cells.TypeCell.{TypeCell}
-use Rattle.reader.specs.Reading.{Outcome, reading}
+use Rattle.reader.specs.Reading.{reading_of}
 use Rattle.reader.specs.declared.faults.ReadFault.{ReadFault}
 use Rattle.checker.specs.Accepting.{program_verdict}
 use Rattle.trees.specs.Failing.{first_failing}
@@ -11,10 +11,6 @@ use Rattle.verdict.specs.Faults.{Verdict as CheckVerdict}
 use Rattle.termview.specs.declared.judged.Judged.{Judged}
 use Rattle.termview.specs.declared.judged.Verdict.{Verdict}
 use Rattle.termview.specs.declared.judged.Verdict.TheVariants.{Unread, Refused, Accepted}
-
--- what is read of a text into new tables
-abbrev pub reading_of : List ℕ → Outcome
-reading_of text = reading text (replicate 256 (kind_cell 0)) (replicate 512 blank)
 
 -- the place that was found, or the length
 abbrev pub or_length : ℕ → Option ℕ → ℕ

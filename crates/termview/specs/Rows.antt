@@ -1,6 +1,9 @@
 -- The table: a row for each cell.
-use Rattle.std.specs.Prelude.{ℕ, zero, suc, ◌+◌, Bool, true, false, cond, ◌||◌, List, [], ◌++◌, Option, Some, None, codes, decimal, drop, encode_utf8, get_or, length, nat_lt, ◌==◌}
+use Rattle.std.specs.Prelude.{ℕ, zero, suc, ◌+◌, Bool, true, false, cond, ◌||◌, List, [], ◌++◌}
+use Rattle.std.specs.Prelude.{Option, Some, None, codes, decimal, drop, encode_utf8, get_or, length}
+use Rattle.std.specs.Prelude.{nat_lt, ◌==◌}
 use Rattle.std.specs.List.{flat_map}
+use Rattle.calculus.specs.Alphabet.{op_variable, op_qubit, op_gate}
 use Rattle.calculus.specs.Cells.{blank}
 use Rattle.calculus.specs.Reading.{top}
 use Rattle.calculus.specs.declared.cells.TermCell.{TermCell}
@@ -15,7 +18,7 @@ use Rattle.termview.specs.Depths.{depths_in}
 abbrev pub letter_text : TermCell → List ℕ
 letter_text c =
     encode_utf8 c.op
-    ++ cond (nat_lt 0 c.argument || (c.op == 118 || (c.op == 103 || c.op == 113)))
+    ++ cond (nat_lt 0 c.argument || (c.op == op_variable || (c.op == op_gate || c.op == op_qubit)))
     (codes " " ++ decimal c.argument) []
 
 abbrev pub mark_text : Bool → List ℕ

@@ -1,5 +1,6 @@
 -- The verdict as it is printed.
-use Rattle.std.specs.Prelude.{ℕ, ◌+◌, ◌-◌, Bool, false, cond, ◌||◌, List, [], ◌∷◌, ◌++◌, Option, Some, None, codes, decimal, is_none, length, nat_le}
+use Rattle.std.specs.Prelude.{ℕ, ◌+◌, ◌-◌, Bool, false, cond, ◌||◌, List, [], ◌∷◌, ◌++◌, Option}
+use Rattle.std.specs.Prelude.{Some, None, codes, decimal, is_none, length, nat_le}
 use Rattle.calculus.specs.Letters.{kind_arity}
 use Rattle.calculus.specs.declared.cells.TermCell.{TermCell}
 use Rattle.calculus.specs.declared.cells.TypeCell.{TypeCell}
@@ -10,7 +11,9 @@ use Rattle.trees.specs.Whole.{counted}
 use Rattle.verdict.specs.Faults.{number_of as check_number}
 use Rattle.verdict.specs.declared.faults.CheckFault.{CheckFault}
 use Rattle.verdict.specs.declared.faults.CheckReason.{CheckReason}
-use Rattle.verdict.specs.declared.faults.CheckReason.TheVariants.{TooManyCells, BadCell, NotWhole, ClaimOutside, TooDeep, NoBinder, WrongClaim, UsedTwice, Captures}
+use Rattle.verdict.specs.declared.faults.CheckReason.TheVariants.{TooManyCells, BadCell, NotWhole}
+use Rattle.verdict.specs.declared.faults.CheckReason.TheVariants.{ClaimOutside, TooDeep, NoBinder}
+use Rattle.verdict.specs.declared.faults.CheckReason.TheVariants.{WrongClaim, UsedTwice, Captures}
 use Rattle.termview.specs.Bytes.{front}
 use Rattle.termview.specs.Lines.{line_in}
 use Rattle.termview.specs.Rows.{claim_text}

@@ -20,7 +20,8 @@ table_text types (c ∷ cs) marked laid =
     codes "term\n" ++ (laid ++ (heading ++ (rows_text types (c ∷ cs) marked ++ codes "\n")))
 
 -- The table stands behind what there was.
-pub record TableOf (types : List TypeCell) (terms : List TermCell) (marked : Option ℕ) (old new : List ℕ) : Type 0 where
+pub record TableOf (types : List TypeCell) (terms : List TermCell) (marked : Option ℕ)
+    (old new : List ℕ) : Type 0 where
   pub laid : List ℕ
   pub lines : TermsLaid (term_trees terms) laid
   pub text : new ≡ old ++ table_text types terms marked laid

@@ -1,6 +1,8 @@
 //! What was read of a text, and what the product says of it.
 
 ghost use Rattle.std.specs.Prelude.{◌≤◌};
+ghost use Rattle.calculus.specs.declared.limits.TheConstants.{MOST_TYPE_CELLS};
+ghost use Rattle.calculus.specs.declared.limits.TheConstants.{MOST_TERM_CELLS};
 
 use calculus::{MOST_TERM_CELLS, MOST_TYPE_CELLS, TermCell, TypeCell};
 use reader::ReadFault;
@@ -25,6 +27,6 @@ pub struct Judged {
     pub kinds: usize,
     pub terms: [TermCell; MOST_TERM_CELLS],
     pub ops: usize,
-    ghost few_kinds: { kinds ≤ 256 },
-    ghost few_ops: { ops ≤ 512 },
+    ghost few_kinds: { kinds ≤ MOST_TYPE_CELLS },
+    ghost few_ops: { ops ≤ MOST_TERM_CELLS },
 }

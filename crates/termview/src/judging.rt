@@ -42,8 +42,8 @@ fn judged(
     terms: [TermCell; MOST_TERM_CELLS],
     ops: usize,
 ) -> Judged
-    requires few_kinds { kinds ≤ 256 }
-    requires few_ops { ops ≤ 512 }
+    requires few_kinds { kinds ≤ MOST_TYPE_CELLS }
+    requires few_ops { ops ≤ MOST_TERM_CELLS }
     ensures verdict { result.verdict ≡ verdict }
     ensures types { (result.kinds ≡ kinds) × (result.types ≡ types) }
     ensures terms { (result.ops ≡ ops) × (result.terms ≡ terms) }

@@ -1,13 +1,14 @@
 //! The table: a row for each cell of a term.
 
 ghost use Rattle.std.specs.Prelude.{◌≡◌, ◌<◌, ◌≤◌, ◌++◌, get_or, length, OnOk, string_bytes};
-ghost use Rattle.termview.specs.Rows.{claim_text, is_marked, letter_text, mark_text, place_text, row_text, rows_text, term_shown};
+ghost use Rattle.termview.specs.Rows.{claim_text, is_marked, letter_text, mark_text, place_text};
+ghost use Rattle.termview.specs.Rows.{row_text, rows_text, term_shown};
 ghost use Rattle.termview.specs.Bytes.{cut, left};
 
 use crate::bytes::{push_blanks, push_cut, push_left, push_number, push_right};
 use crate::cells::Cells;
 use crate::depths::depths;
-use calculus::{TermCell, TypeCell};
+use calculus::{MOST_TERM_CELLS, TermCell, TypeCell};
 use notation::{Around, push_term, push_type};
 use std::alloc::{AllocError, Global};
 
@@ -77,7 +78,7 @@ fn push_term_column(
     cells: &[TermCell],
     binders: u16,
 ) -> Result<(), AllocError>
-    requires { length cells.now ≤ 512 }
+    requires { length cells.now ≤ MOST_TERM_CELLS }
     ensures { OnOk result (string_bytes out.new
         ≡ string_bytes out.old ++ cut 46 (term_shown cells.now binders)) }
 {

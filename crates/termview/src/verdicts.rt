@@ -2,14 +2,15 @@
 
 ghost use Rattle.std.specs.Prelude.{◌≡◌, ◌≤◌, ◌++◌, IfSome, OnOk, string_bytes};
 ghost use Rattle.std.specs.Option.{ForSome};
-ghost use Rattle.termview.specs.Verdicts.{accepted_text, is_of_types, place_of, root_claim, refused_cell, refused_text, unread_text, verdict_text};
+ghost use Rattle.termview.specs.Verdicts.{accepted_text, is_of_types, place_of, root_claim};
+ghost use Rattle.termview.specs.Verdicts.{refused_cell, refused_text, unread_text, verdict_text};
 
 use crate::bytes::{push_front, push_number};
 use crate::cells::Cells;
 use crate::judged::Verdict;
 use crate::lines::line_after;
 use crate::rows::push_claim;
-use calculus::{TermCell, TypeCell};
+use calculus::{MOST_TERM_CELLS, TermCell, TypeCell};
 use reader::ReadFault;
 use std::alloc::AllocError;
 use trees::count;
@@ -31,7 +32,7 @@ pub fn is_of_types(fault: CheckFault, types: &[TypeCell]) -> bool
 /// The cell of the term that is refused, if it is one that was read.
 pub fn refused_cell(verdict: Verdict, cells: Cells<'_>) -> Option<usize>
     ensures cell { result ≡ refused_cell verdict cells.entry.types.now cells.entry.terms.now }
-    ensures within { IfSome result (λ cell. cell ≤ 512) }
+    ensures within { IfSome result (λ cell. cell ≤ MOST_TERM_CELLS) }
 {
     let Verdict::Refused(fault) = verdict else {
         return None;
@@ -44,7 +45,7 @@ pub fn refused_cell(verdict: Verdict, cells: Cells<'_>) -> Option<usize>
 
 // Appends the line of a cell, if one is named.
 fn push_place(out: &mut String, cells: Cells<'_>, cell: Option<usize>) -> Result<(), AllocError>
-    requires { ForSome cell (λ cell. cell ≤ 512) }
+    requires { ForSome cell (λ cell. cell ≤ MOST_TERM_CELLS) }
     ensures { OnOk result (string_bytes out.new
         ≡ string_bytes out.old ++ place_of cells.entry.types.now cell) }
 {

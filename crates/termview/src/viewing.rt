@@ -11,13 +11,13 @@ use crate::layout::push_laid;
 use crate::reasons::push_reasons;
 use crate::rows::push_rows;
 use crate::verdicts::{push_verdict, refused_cell};
-use calculus::TermCell;
+use calculus::{MOST_TERM_CELLS, TermCell};
 use notation::{Around, push_term};
 use std::alloc::{AllocError, Global};
 
 // Appends each term that the cells make, on lines of its own.
 fn push_terms(out: &mut String, alloc: Global, cells: &[TermCell]) -> Result<(), AllocError>
-    requires { length cells.now ≤ 512 }
+    requires { length cells.now ≤ MOST_TERM_CELLS }
     ensures { OnOk result ((laid : List ℕ) × (TermsLaid (term_trees cells.now) laid
         × (string_bytes out.new ≡ string_bytes out.old ++ laid))) }
 {

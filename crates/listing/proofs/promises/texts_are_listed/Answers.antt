@@ -6,7 +6,7 @@ use Rattle.registers.specs.Telling.{tape_tells}
 use Rattle.controller.specs.Settled.{run_from, run_of}
 use Rattle.listing.specs.Lines.{text_of}
 use Rattle.listing.specs.Listed.{listing_of, start_of_run, lines_of_run, lines_of_text}
-use Rattle.listing.specs.Playing.{reading_of}
+use Rattle.reader.specs.Reading.{reading_of}
 use Rattle.listing.specs.Shots.{flips}
 use Rattle.listing.specs.Written.{stored, printed}
 use Rattle.listing.proofs.Budget.{spent_lines}
