@@ -1,5 +1,5 @@
 -- The notation of a term's leaves.
-use Rattle.std.specs.Prelude.{ℕ, ◌+◌, ◌-◌, cond, List, [], ◌∷◌, ◌++◌, Option, Some, None, codes, decimal, get_or, nat_lt, ◌==◌}
+use Rattle.std.specs.Prelude.{ℕ, ◌-◌, cond, List, [], ◌∷◌, ◌++◌, Option, Some, None, codes, decimal, get_or, nat_lt, ◌==◌}
 use Rattle.calculus.specs.Gates.{gate_of}
 use Rattle.calculus.specs.declared.cells.TermCell.{TermCell}
 use Rattle.calculus.specs.declared.gates.Gate.{Gate}
