@@ -1,5 +1,5 @@
 -- The notation of a term's leaves.
-use Rattle.std.specs.Prelude.{ℕ, ◌+◌, ◌-◌, cond, List, [], ◌∷◌, ◌++◌, Option, Some, None, codes}
+use Rattle.std.specs.Prelude.{ℕ, ◌-◌, cond, List, [], ◌∷◌, ◌++◌, Option, Some, None, codes}
 use Rattle.std.specs.Prelude.{decimal, get_or, nat_lt, ◌==◌}
 use Rattle.calculus.specs.Alphabet.{op_variable, op_qubit, op_gate, op_zero, op_one, op_measure}
 use Rattle.calculus.specs.Alphabet.{op_new, op_unit}

@@ -1,4 +1,4 @@
-use Rattle.std.proofs.Common.{ℕ, ◌≤◌, length, replicate, rules}
+use Rattle.std.proofs.Common.{ℕ, length, replicate, rules}
 use Rattle.listing.specs.Listed.{most_bytes}
 use Rattle.qlterm.proofs.Left.{kept_on_error}
 use Rattle.qlterm.proofs.view_of_input.Goals as goal
