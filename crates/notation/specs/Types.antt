@@ -1,6 +1,7 @@
 -- The notation of types.
 use Rattle.std.specs.Prelude.{ℕ, cond, List, [], ◌∷◌, ◌++◌, codes, ◌==◌}
-use Rattle.calculus.specs.Alphabet.{kind_bit, kind_qubit, kind_unit, kind_bang, kind_arrow, kind_pair}
+use Rattle.calculus.specs.Alphabet.{kind_bit, kind_qubit, kind_unit, kind_bang, kind_arrow}
+use Rattle.calculus.specs.Alphabet.{kind_pair}
 use Rattle.calculus.specs.Reading.{rest, top}
 use Rattle.calculus.specs.declared.cells.TypeCell.{TypeCell}
 use Rattle.notation.specs.declared.brackets.Around.{Around}

@@ -1,5 +1,5 @@
-//! Reads a stored program from standard input and prints its view: its term, a row for each cell, and
-//! what is said of it.
+//! Reads a stored program from standard input and prints its view: its term, a row for each cell,
+//! and what is said of it.
 #![tactic(auto)]
 
 ghost use Rattle.std.specs.Prelude.{◌≤◌, ◌≡◌, ℕ, drop, take, IfOk, IfSome, OnOk, OnErr, Some};

@@ -1,4 +1,5 @@
-//! A stored program as a reader of it wants to see it: its term, a row for each cell, and the verdict.
+//! A stored program as a reader of it wants to see it: its term, a row for each cell, and the
+//! verdict.
 #![tactic(auto)]
 
 mod bytes;

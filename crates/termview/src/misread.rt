@@ -55,7 +55,7 @@ fn push_reason(
         ReadReason::Header => out.push_str("line 1 is not the header, which is QL, a tab and 1\n"),
         ReadReason::Line => out.push_str(misplaced(line, number, cells)),
         ReadReason::Number => out.push_str(
-            "a number field is none: one to five digits, no zero in front, at most 65535\n",
+            "a field is no number: one to five digits, no zero in front, at most 65535\n",
         ),
         ReadReason::Full => out.push_str(
             "there is no room for the cell: at most 256 T lines and 512 M lines may stand\n",
