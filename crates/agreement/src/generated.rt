@@ -1,5 +1,4 @@
-//! The generated programs: drawn by the typing rules, damaged, at the limits, and cells of any
-//! kind.
+//! Generated programs: drawn by the typing rules, damaged, at the limits, and cells of any kind.
 
 use crate::compare::{compare_checks, compare_finds, compare_shots};
 use calculus::Gate;
@@ -19,8 +18,7 @@ fn compare_draft(tally: &mut Tally, draft: &Draft) -> io::Result<()> {
     compare_finds(tally, &draft.terms)
 }
 
-/// Compares programs that follow the typing rules, and some that use variables more often than they
-/// may.
+/// Compares programs that follow the typing rules, and some that use variables too often.
 pub fn compare_drawn(tally: &mut Tally, random: &mut Random) -> io::Result<()> {
     for i in 0..2000 {
         let draft = any_program(tally.heap(), random, i % 5 == 0)?;

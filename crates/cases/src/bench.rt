@@ -14,8 +14,7 @@ use std::test::Fail;
 #[derive(Clone, Copy, Drop)]
 pub struct Stored<'a>(pub &'a str, pub &'a str);
 
-/// A call, with the cells of the tables that it is handed; for a collect also the types that it is
-/// to write.
+/// A call, with the cells of the tables that it is handed; a collect has the types to write too.
 #[derive(Clone, Copy, Drop)]
 pub enum Call<'a> {
     Load(Stored<'a>),
@@ -37,8 +36,7 @@ pub enum Reply {
     Stopped(u64, u16, u64, u16),
 }
 
-/// An answer. A refusal has its number, its place, and the depth of a register's fault, 0 for any
-/// other.
+/// An answer. A refusal has its number, its place, and the depth of a register's fault, or else 0.
 pub type Answer = Result<Reply, (u16, u64, u16)>;
 
 /// A call, its reply, the cells that it writes at the front of its table, and then the register's

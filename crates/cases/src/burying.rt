@@ -1,5 +1,4 @@
-//! A layer that passes every refusal up as from a depth that it is given, as if so many layers lay
-//! between.
+//! A layer that passes every refusal up as from a given depth, as if so many layers lay between.
 
 ghost use Rattle.std.specs.Prelude.{◌≡◌, Some, Ok, Err, MatchResult};
 ghost use Rattle.registers.specs.Depth.{deeper};

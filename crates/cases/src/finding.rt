@@ -1,5 +1,4 @@
-//! Running terms: the rule that applies and its cell, a value, or the number and the cell of a
-//! refusal.
+//! Running terms: the rule that applies and its cell, a value, or a refusal's number and cell.
 
 use crate::making::terms;
 use finder::{Rule, find};

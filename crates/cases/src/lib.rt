@@ -1,5 +1,4 @@
-//! Tables of cases for the public calls of the unit: exact answers, places, and what each call
-//! leaves.
+//! Tables of cases for the unit's public calls: exact answers, places, and what each call leaves.
 #![tactic(auto)]
 
 #[cfg(test)]

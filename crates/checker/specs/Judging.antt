@@ -1,5 +1,4 @@
--- What the judging of a term speaks of: the terms at its nodes, their parts, and the binders around
--- them.
+-- What the judging of a term speaks of: terms at its nodes, their parts, and the binders around.
 use Rattle.std.specs.Prelude.{◌≡◌, ℕ, ◌+◌, List, ◌++◌, map, reverse}
 use Rattle.std.specs.Prelude.{slice_index_or, Ok, Err, Result}
 use Rattle.calculus.specs.Cells.{blank}

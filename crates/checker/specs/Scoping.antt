@@ -1,5 +1,4 @@
--- The binders in scope, in a record whose outermost level is 0, and the sets of those that are
--- used.
+-- The binders in scope, in a record whose outermost level is 0, and the sets of the used ones.
 use Rattle.std.specs.Prelude.{◌≡◌, ℕ, ◌+◌, ◌-◌, ◌<◌, ◌==◌, nat_le, nat_lt}
 use Rattle.std.specs.Prelude.{Bool, true, false, cond, List, length, map, reverse}
 use Rattle.std.specs.Int.{bit_at}

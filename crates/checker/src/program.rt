@@ -1,5 +1,4 @@
-//! A program as it is checked: both tables, where each tree of the term ends, and the nodes of the
-//! term.
+//! A program as it is checked: both tables, where each tree of the term ends, and the term's nodes.
 
 ghost use Rattle.std.specs.Prelude.{◌≡◌, ◌+◌, ◌<◌, ◌≤◌, length, drop};
 ghost use Rattle.calculus.specs.Letters.{arity};
@@ -12,8 +11,7 @@ use calculus::{MOST_TERM_CELLS, TermCell, TypeCell};
 use subtyping::TypeAt;
 use trees::Cell;
 
-/// Both tables of a program that passed their tests, and one past the tree at each place of the
-/// term.
+/// Both tables of a program that passed the tests, and one past the tree at each place of the term.
 #[derive(Drop)]
 pub struct Program<'a> {
     types: &'a [TypeCell],

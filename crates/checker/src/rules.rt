@@ -26,8 +26,7 @@ const ARROW: TypeCell = TypeCell { kind: '>' };
 
 const PAIR: TypeCell = TypeCell { kind: '*' };
 
-// The own types of the constants: of bits, of `n`, of `m`, and of gates on one, two and three
-// qubits.
+// The own types of constants: of bits, of `n`, of `m`, and of gates on one, two and three qubits.
 static BIT_TYPE: [TypeCell; 2] = [MARK, BIT];
 
 static NEW_TYPE: [TypeCell; 4] = [MARK, ARROW, BIT, QUBIT];
@@ -103,8 +102,7 @@ fn application_fits(claim: TypeAt<'_>, function: TypeAt<'_>, argument: TypeAt<'_
     )
 }
 
-// Whether the claim is a pair after any marks, and the parts claim its parts, each after the same
-// marks.
+// Whether the claim is a pair after any marks, and the parts claim its parts after the same marks.
 fn pair_fits(claim: TypeAt<'_>, left: TypeAt<'_>, right: TypeAt<'_>) -> bool
     ensures { result ≡ pair_fits (meant claim.entry) (meant left.entry) (meant right.entry) }
 {

@@ -96,8 +96,7 @@ impl Draft {
         Ok(())
     }
 
-    /// More term cells from a text: op, argument and claim of each, with a comma and a blank
-    /// between cells.
+    /// More term cells from a text: op, argument and claim of each, parted by a comma and a blank.
     pub fn stored(&mut self, cells: &str) -> Result<(), AllocError>
         ensures { self.new.types ≡ self.old.types }
     {

@@ -12,8 +12,7 @@ use crate::limits::{common, padded, wrap};
 use calculus::Gate;
 use std::alloc::{AllocError, Global};
 
-// The table of programs that put a function into another's body: the shared types, and !(b>b)*b at
-// 17.
+// The table of programs that put a function into another's body: shared types, and !(b>b)*b at 17.
 fn with_pair(heap: Global) -> Result<Draft, AllocError>
     ensures types { IfOk result (λ draft. draft.types.items ≡ table pair_types) }
     ensures terms { IfOk result (λ draft. draft.terms.items ≡ []) }
@@ -61,8 +60,7 @@ pub fn applied_copies(heap: Global, times: usize, cells: usize) -> Result<Draft,
     Ok(draft)
 }
 
-/// As `applied_copies`, but that the function is a component of a pair, and a split puts it into
-/// the body.
+/// As `applied_copies`, but a split puts the function, a component of a pair, into the body.
 pub fn split_copies(heap: Global, times: usize, cells: usize) -> Result<Draft, AllocError>
     ensures count { IfOk result (λ draft. vec_len draft.terms
         ≡ 2 * times + function_count cells + 4) }

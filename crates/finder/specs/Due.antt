@@ -3,8 +3,7 @@ use Rattle.std.specs.Prelude.{ℕ, ◌+◌}
 use Rattle.calculus.specs.Terms.{app, pair, if_then_else, let_pair, Running, size}
 use Rattle.calculus.specs.Reduction.{Value}
 
--- the part of the term that is due, and the place of its first cell: what is worked first in it are
--- values
+-- the part of a term that is due, and the place of its first cell: what it works first are values
 pub data Due : Running → ℕ → Running → Type 0 where
   due_application : {c : Unit {0}} {m n : Running} → Value m → Value n
       → Due (app c m n) 0 (app c m n)

@@ -19,7 +19,7 @@ use Rattle.finder.specs.declared.faults.FindReason.TheVariants.{NoRule}
 abbrev pub tested : List TermCell → Result (Unit {0}) FindFault
 tested cs =
     cond (nat_lt MOST_RUNNING_CELLS (length cs))
-      (Err (fault TooManyCells MOST_RUNNING_CELLS))
+    (Err (fault TooManyCells MOST_RUNNING_CELLS))
     (none_at (fault BadCell) (first_failing allowed cs 0)
     (none_at (fault NotWhole) (not_one_tree arity cs) (Ok tt)))
 

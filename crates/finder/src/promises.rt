@@ -1,5 +1,4 @@
-//! What holds of every search. Each function stands for a theorem: its contract is the theorem's
-//! statement.
+//! What holds of every search. Each function stands for a theorem, which its contract states.
 
 ghost use Rattle.finder.specs.Laws.{SearchIsReduction};
 ghost use Rattle.finder.specs.Samples.{SamplesHold};

@@ -65,8 +65,7 @@ fn step(cells: &[TermCell], work: &mut [TermCell]) -> anyhow::Result<()> {
     Ok(())
 }
 
-// One line: the size, the time and, after the first size, its ratio to the time before in
-// hundredths.
+// One line: the size, the time and, after the first, its ratio to the time before in hundredths.
 fn report(
     rt: &HostRuntime,
     what: &str,

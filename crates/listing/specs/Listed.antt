@@ -38,7 +38,7 @@ abbrev pub start_of_run : List TypeCell → List TermCell → Standing Reel
 start_of_run types terms = record {
   shot = program_held types terms;
   register = after_clear tape_changes
-    (new_tape CAPACITY (alternating PULSES) (replicate PULSES Empty));
+      (new_tape CAPACITY (alternating PULSES) (replicate PULSES Empty));
   work = replicate MOST_RUNNING_CELLS blank;
 }
 

@@ -44,8 +44,7 @@ KindKnown c = is_kind c.kind ≡ true
 abbrev pub OpKnown : TermCell → Type 0
 OpKnown c = (is_op c.op ≡ true) × (c.argument ≤ 65535) × (c.claim ≤ 65535)
 
--- letters of the calculus and numbers up to 65,535, no more of them than the limits and the tables
--- allow
+-- letters of the calculus and numbers up to 65,535, no more than the limits and the tables allow
 pub record Fitting (ks : List TypeCell) (os : List TermCell)
     (ts : List TypeCell) (ms : List TermCell) : Type 0 where
   pub kinds_known : AllByRecursion KindKnown ks

@@ -54,8 +54,7 @@ pub fn numbers(first: &[u8], second: &[u8]) -> Result<(u16, u16), ReadReason>
     number(first).zip(number(second)).ok_or(ReadReason::Number)
 }
 
-/// The front of a table: the cells that have gone into it, `MOST` at most, with the room behind
-/// them.
+/// The front of a table: the cells that went into it, `MOST` at most, with the room behind them.
 #[derive(Drop)]
 pub struct Front<'a, T, const MOST: usize> {
     cells: &'a mut [T],

@@ -34,8 +34,7 @@ pub(crate) struct Maker<'r> {
     pub(crate) heap: Global,
     pub(crate) random: &'r mut Random,
     pub(crate) draft: Draft,
-    // The types of the variables in scope, the outermost first, and the levels of those that are
-    // spent.
+    // The types of the variables in scope, the outermost first, and the levels of the spent ones.
     pub(crate) scope: Vec<Kind>,
     pub(crate) spent: BTreeSet<usize>,
     // Of each open condition what was spent before its branches, and from the second one on what

@@ -71,8 +71,7 @@ fn leave_lambda(site: Site, marks: usize, outer: BTreeSet<usize>) -> Result<BTre
     Ok(outer)
 }
 
-/// The types that a program's nodes may claim, and those of the binders in scope, the outermost
-/// first.
+/// The types that a program's nodes may claim, and those of binders in scope, the outermost first.
 #[derive(Drop)]
 pub struct Judge<'k> {
     heap: Global,
@@ -180,8 +179,7 @@ impl<'k> Judge<'k> {
         outside(used, level)
     }
 
-    // The rule of an application: its function claims exactly what its argument and it itself
-    // claim.
+    // The rule of an application: its function claims just what its argument and it itself claim.
     fn test_apply(&self, site: Site, function: Site, argument: Site) -> Result<(), Fault> {
         let claim = self.claimed(site)?;
         let function = self.claimed(function)?;

@@ -10,8 +10,7 @@ use Rattle.stepper.specs.Parts.{taken, after}
 use Rattle.stepper.specs.Substitution.{substitute}
 use Rattle.stepper.specs.Writing.{answer_cell}
 
--- how many trees the redex has: body and argument, left and right and body, both branches, or the
--- argument
+-- how many trees a redex has: body and argument, left, right and body, both branches, or argument
 abbrev pub trees : Rule → ℕ
 trees Function = 2
 trees Pair = 3

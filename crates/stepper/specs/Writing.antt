@@ -21,7 +21,7 @@ answer_cell (Outcome false) = running_cell op_zero 0
 -- the number of cells after some are put behind the first `len`, if a running term may have so many
 abbrev pub put_count : ℕ → List TermCell → Option ℕ
 put_count len cs = cond (nat_le (len + length cs) MOST_RUNNING_CELLS)
-  (Some (len + length cs)) None
+    (Some (len + length cs)) None
 
 -- a table with cells written over it from `at` on, as far as it goes
 abbrev pub overlaid : List TermCell → ℕ → List TermCell → List TermCell

@@ -1,5 +1,4 @@
-//! Steps of running terms, on their cells: the next term of a rule, and the qubits that a term
-//! names.
+//! Steps of running terms, on cells: the next term of a rule, and the qubits that a term names.
 #![tactic(auto)]
 
 mod naming;

@@ -1,5 +1,4 @@
--- The verdict on a term, in tree order: each node's tests, then its parts, then what the parts
--- share.
+-- The verdict on a term, in tree order: a node's tests, then its parts, then what the parts share.
 use Rattle.std.specs.Prelude.{◌≡◌, ℕ, ◌+◌, ◌≤◌, ◌↔◌, nat_le}
 use Rattle.std.specs.Prelude.{Bool, true, false, ◌||◌, List, [], ◌∷◌, length, is_some}
 use Rattle.calculus.specs.Types.{Ty}
@@ -92,8 +91,7 @@ verdict_from k bs (let_pair c m n) =
 abbrev pub verdict : Term Ty → Verdict
 verdict m = verdict_from 0 [] m
 
--- Accepted are just the terms that have a derivation with their claims, and at most 32 nested
--- binders.
+-- Accepted are just the terms that have a derivation with their claims and nest up to 32 binders.
 abbrev pub AcceptanceIsDerivability : Type 0
 AcceptanceIsDerivability = (m : Term Ty)
     → (verdict m ≡ accepted) ↔ ((nested m ≤ 32) × Derives Claimed empty m (claim_of m))

@@ -5,8 +5,7 @@ ghost use Rattle.verdict.specs.Judging.{AcceptanceIsDerivability, AcceptanceIsDe
 ghost use Rattle.verdict.specs.Sheet.{FirstRowAnswers};
 ghost use Rattle.verdict.specs.Uses.{UsesAreFree};
 
-/// Accepted are just the terms that have a derivation with their claims and nest at most 32
-/// binders.
+/// Accepted are just the terms that have a derivation with their claims and nest up to 32 binders.
 pub fn acceptance_is_derivability()
     ensures { AcceptanceIsDerivability }
 {}
