@@ -1,5 +1,6 @@
 -- The notation of terms.
 use Rattle.std.specs.Prelude.{ℕ, ◌+◌, cond, List, [], ◌∷◌, ◌++◌, codes, ◌==◌}
+use Rattle.calculus.specs.Alphabet.{op_function, op_application, op_pair, op_let, op_condition}
 use Rattle.calculus.specs.Reading.{rest, top}
 use Rattle.calculus.specs.declared.cells.TermCell.{TermCell}
 use Rattle.notation.specs.declared.brackets.Around.{Around}
@@ -20,11 +21,12 @@ pub data TermTree : Type 0 where
 -- a cell, by its letter, before cells that make the terms ms: l, a, p, d, i
 abbrev pub with_op : TermCell → List TermTree → List TermTree
 with_op c ms =
-    cond (c.op == 108) (function (top no_term ms) ∷ rest ms)
-    (cond (c.op == 97) (application (top no_term ms) (top no_term (rest ms)) ∷ rest (rest ms))
-    (cond (c.op == 112) (pair (top no_term ms) (top no_term (rest ms)) ∷ rest (rest ms))
-    (cond (c.op == 100) (let_pair (top no_term ms) (top no_term (rest ms)) ∷ rest (rest ms))
-    (cond (c.op == 105)
+    cond (c.op == op_function) (function (top no_term ms) ∷ rest ms)
+    (cond (c.op == op_application)
+    (application (top no_term ms) (top no_term (rest ms)) ∷ rest (rest ms))
+    (cond (c.op == op_pair) (pair (top no_term ms) (top no_term (rest ms)) ∷ rest (rest ms))
+    (cond (c.op == op_let) (let_pair (top no_term ms) (top no_term (rest ms)) ∷ rest (rest ms))
+    (cond (c.op == op_condition)
     (condition (top no_term ms) (top no_term (rest ms)) (top no_term (rest (rest ms)))
     ∷ rest (rest (rest ms)))
     (leaf c ∷ ms)))))

@@ -13,6 +13,8 @@ use Rattle.notation.specs.Terms.{no_term, term_text, term_trees}
 use Rattle.notation.specs.Types.{no_type, type_text, type_trees}
 use Rattle.termview.specs.Bytes.{cut, left, right}
 use Rattle.termview.specs.Depths.{depths_in}
+use Rattle.termview.specs.declared.rows.TheConstants.{CELL_WIDTH, LINE_WIDTH, LETTER_WIDTH}
+use Rattle.termview.specs.declared.rows.TheConstants.{TERM_WIDTH}
 
 -- a letter, with its argument where it has one: v, g, q
 abbrev pub letter_text : TermCell → List ℕ
@@ -27,7 +29,8 @@ mark_text false = codes "   "
 
 -- the mark of a row, and the number and the line of its cell
 abbrev pub place_text : ℕ → ℕ → Bool → List ℕ
-place_text cell line marked = mark_text marked ++ (right 5 cell ++ (right 6 line ++ codes "  "))
+place_text cell line marked =
+    mark_text marked ++ (right CELL_WIDTH cell ++ (right LINE_WIDTH line ++ codes "  "))
 
 -- the term that cells begin with, under so many binders
 abbrev pub term_shown : List TermCell → ℕ → List ℕ
@@ -48,7 +51,8 @@ module _ (types : List TypeCell) (terms : List TermCell) where
   row_text at binders marked =
       let c = get_or terms at blank in
       place_text at (at + 2 + length types) marked
-      ++ (left 8 (letter_text c) ++ (cut 46 (term_shown (drop at terms) binders) ++ (codes "  "
+      ++ (left LETTER_WIDTH (letter_text c)
+      ++ (cut TERM_WIDTH (term_shown (drop at terms) binders) ++ (codes "  "
       ++ (claim_text types c.claim ++ codes "\n"))))
 
   -- the binders around each cell, each tree by itself

@@ -19,6 +19,7 @@ use Rattle.termview.specs.Lines.{line_in}
 use Rattle.termview.specs.Rows.{claim_text}
 use Rattle.termview.specs.declared.judged.Verdict.{Verdict}
 use Rattle.termview.specs.declared.judged.Verdict.TheVariants.{Unread, Refused, Accepted}
+use Rattle.termview.specs.declared.verdicts.TheConstants.{MOST_SHOWN}
 
 -- 22 is of the type table where its types are not whole
 abbrev pub of_types : CheckReason → List TypeCell → Bool
@@ -57,7 +58,7 @@ abbrev pub unread_text : ReadFault → List ℕ → List ℕ
 unread_text f text =
     codes "refused by " ++ (decimal (read_number f.reason) ++ (codes " at line "
     ++ (decimal f.line ++ (codes "\n>>> "
-    ++ (front 80 (line_in (f.line - 1) (pieces 10 text)).0 ++ codes "\n")))))
+    ++ (front MOST_SHOWN (line_in (f.line - 1) (pieces 10 text)).0 ++ codes "\n")))))
 
 -- the claim of the root
 abbrev pub root_claim : List TermCell → ℕ

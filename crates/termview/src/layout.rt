@@ -71,7 +71,7 @@ fn best_break(text: &[u8], room: usize) -> usize
 
 // The columns from the left of a line that begins so deep in brackets.
 fn indent_at(depth: usize) -> usize
-    ensures { result ≤ 40 }
+    ensures { result ≤ MOST_INDENT }
 {
     (2 * INDENT + INDENT * depth.min(WIDTH)).min(MOST_INDENT)
 }

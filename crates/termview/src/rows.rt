@@ -64,7 +64,7 @@ fn push_place(out: &mut String, cell: usize, line: usize, is_marked: bool) -> Re
 // Appends the column of a cell's letter.
 fn push_letter_column(out: &mut String, alloc: Global, cell: TermCell) -> Result<(), AllocError>
     ensures { OnOk result (string_bytes out.new
-        ≡ string_bytes out.old ++ left 8 (letter_text cell)) }
+        ≡ string_bytes out.old ++ left LETTER_WIDTH (letter_text cell)) }
 {
     let mut letter = String::new(alloc);
     push_letter(&mut letter, cell)?;
@@ -80,7 +80,7 @@ fn push_term_column(
 ) -> Result<(), AllocError>
     requires { length cells.now ≤ MOST_TERM_CELLS }
     ensures { OnOk result (string_bytes out.new
-        ≡ string_bytes out.old ++ cut 46 (term_shown cells.now binders)) }
+        ≡ string_bytes out.old ++ cut TERM_WIDTH (term_shown cells.now binders)) }
 {
     let mut term = String::new(alloc);
     push_term(&mut term, cells, binders as usize, Around::Open)?;
