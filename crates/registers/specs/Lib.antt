@@ -13,3 +13,4 @@ pub mod Pulses
 pub mod Put
 pub mod Journal
 pub mod Layers
+pub mod Spending

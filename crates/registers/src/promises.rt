@@ -8,6 +8,7 @@ ghost use Rattle.registers.specs.Pulses.{EachPulseIsWritten};
 ghost use Rattle.registers.specs.Put.{LevelReadsWhatWasPut};
 ghost use Rattle.registers.specs.Room.{RoomIsKept};
 ghost use Rattle.registers.specs.Sheet.{RefusalsAreExact};
+ghost use Rattle.registers.specs.Spending.{PulsesAreSpent};
 ghost use Rattle.registers.specs.Telling.{SettledBy, CapSettles, tape_tells};
 ghost use Rattle.registers.specs.Telling.{level_tells, cap_tells};
 
@@ -69,4 +70,9 @@ pub fn level_is_settled()
 /// What a cap tells is a function of what it means, if that is so of the register below.
 pub fn cap_is_settled<R: Register>()
     ensures { CapSettles R.Register ⟦<Cap<R> as Register>⟧ cap_tells }
+{}
+
+/// Each accepted prepare, gate and read spends one pulse, and no other call spends any.
+pub fn pulses_are_spent<R: Register>()
+    ensures { PulsesAreSpent R.Register }
 {}

@@ -9,3 +9,5 @@ pub mod Sound
 pub mod Steps
 pub mod Wants
 pub mod Unsound
+mod Refusals
+mod Runs

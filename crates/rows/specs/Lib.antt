@@ -11,3 +11,5 @@ pub mod Bounds
 pub mod Making
 pub mod Sample
 pub mod Unsound
+pub mod Refusals
+pub mod Runs

@@ -8,6 +8,8 @@ ghost use Rattle.rows.specs.Bounds.{EveryPlaceIsBounded};
 ghost use Rattle.rows.specs.Making.{EveryRowIsMade, EveryAnswerIsServed, StepsAreExact};
 ghost use Rattle.rows.specs.Sample.{SampleRow};
 ghost use Rattle.rows.specs.Unsound.{UnsoundPlaces};
+ghost use Rattle.rows.specs.Refusals.{RefusedStays, SampleRefusals};
+ghost use Rattle.rows.specs.Runs.{RunsAreSteps};
 
 /// From a new controller, whatever the row, every place is sound: the live qubits are exactly those
 /// that the running term names, the term has its loaded type, and a step of what is no value is
@@ -41,4 +43,19 @@ pub fn steps_are_exact<Content>()
 pub fn sample_row_is_made()
     ensures row { SampleRow }
     ensures unsound { UnsoundPlaces }
+{}
+
+/// A member that is refused changes nothing.
+pub fn refused_members_change_nothing<Content>()
+    ensures { RefusedStays Content }
+{}
+
+/// Each row of the sheet of refusals but 37 answers at a sample place, by its number.
+pub fn sample_refusals_answer()
+    ensures { SampleRefusals }
+{}
+
+/// A run of no budget stays; one of more stops at once, or is a step and a run of one less.
+pub fn runs_are_their_steps<Content>()
+    ensures { RunsAreSteps Content }
 {}
