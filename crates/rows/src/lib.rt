@@ -11,9 +11,9 @@ ghost use Rattle.rows.specs.Unsound.{UnsoundPlaces};
 ghost use Rattle.rows.specs.Refusals.{RefusedStays, SampleRefusals};
 ghost use Rattle.rows.specs.Runs.{RunsAreSteps};
 
-/// From a new controller, whatever the row, every place is sound: the live qubits are exactly those
-/// that the running term names, the term has its loaded type, and a step of what is no value is
-/// refused for want of cells, of a pulse or of room alone.
+/// From a new controller, whatever the row, every place is sound. The live qubits are exactly those
+/// that the running term names, and the term has its loaded type. A step of what is no value, with
+/// a work table that is long enough, is refused for want of cells, of a pulse or of room alone.
 pub fn every_place_is_sound<Content>()
     ensures { EveryPlaceIsSound Content }
 {}
