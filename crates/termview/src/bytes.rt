@@ -87,7 +87,7 @@ pub fn push_left(out: &mut String, bytes: &[u8], width: usize) -> Result<(), All
 }
 
 /// Appends bytes, cut where they are more than a column has room for.
-pub fn push_front(out: &mut String, bytes: &[u8], width: usize) -> Result<(), AllocError>
+pub(crate) fn push_front(out: &mut String, bytes: &[u8], width: usize) -> Result<(), AllocError>
     requires { 3 ≤ width }
     ensures { OnOk result (string_bytes out.new ≡ string_bytes out.old ++ front width bytes.now) }
 {
@@ -99,7 +99,7 @@ pub fn push_front(out: &mut String, bytes: &[u8], width: usize) -> Result<(), Al
 }
 
 /// Appends bytes at the left of a column, cut where they are more than it has room for.
-pub fn push_cut(out: &mut String, bytes: &[u8], width: usize) -> Result<(), AllocError>
+pub(crate) fn push_cut(out: &mut String, bytes: &[u8], width: usize) -> Result<(), AllocError>
     requires { 3 ≤ width }
     ensures { OnOk result (string_bytes out.new ≡ string_bytes out.old ++ cut width bytes.now) }
 {

@@ -17,7 +17,7 @@ pub struct Cells<'a> {
 
 impl<'a> Cells<'a> {
     /// The line of a cell of the term.
-    pub fn line(self, cell: usize) -> usize
+    pub(crate) fn line(self, cell: usize) -> usize
         requires { cell ≤ MOST_TERM_CELLS }
         ensures { result ≡ cell + 2 + length self.entry.types.now }
     {

@@ -46,7 +46,7 @@ fn note_depths<'a>(
 }
 
 /// How many binders each cell stands under, in its own tree.
-pub fn depths(alloc: Global, cells: &[TermCell]) -> Result<Vec<u16>, AllocError>
+pub(crate) fn depths(alloc: Global, cells: &[TermCell]) -> Result<Vec<u16>, AllocError>
     requires { 2 * length cells.now < 65536 }
     ensures { IfOk result (λ found.
         found.items ≡ flat_map (depths_in 0) (term_trees cells.now)) }

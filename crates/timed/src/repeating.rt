@@ -19,7 +19,7 @@ pub fn sum_with(sum: u64, verdict: Verdict) -> u64
 }
 
 /// Makes a call so many times, and answers the sum of its verdicts.
-pub fn sum_of_verdicts<F: Fn() -> Verdict>(times: u64, call: F) -> u64
+pub(crate) fn sum_of_verdicts<F: Fn() -> Verdict>(times: u64, call: F) -> u64
     requires { F.IsAlwaysCallable call }
     ensures { (verdict : Verdict) → ((answer : Verdict) → F.post call answer → answer ≡ verdict)
         → result ≡ sum_of times verdict }
