@@ -19,7 +19,7 @@ pub struct Shot {
 }
 
 /// Has a table hold these cells in place of what it held.
-pub fn refill<T: Copy + Default, const N: usize>(table: &mut ArrayVec<T, N>, cells: &[T])
+pub(crate) fn refill<T: Copy + Default, const N: usize>(table: &mut ArrayVec<T, N>, cells: &[T])
     requires { length cells.now ≤ N }
     ensures { table.new.items ≡ cells.now }
 {

@@ -19,7 +19,7 @@ pub struct RunReport {
 }
 
 /// What the replies to a load, a run and a collect report.
-pub fn report_of(
+pub(crate) fn report_of(
     loaded: Option<Reply>,
     run: Option<Reply>,
     collected: Option<Reply>,

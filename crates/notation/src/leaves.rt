@@ -13,7 +13,7 @@ const NAMES: [char; 14] = [
 ];
 
 // Appends a number.
-fn push_number(out: &mut String, number: usize) -> Result<(), AllocError>
+fn push_number(out: &mut String, number: u128) -> Result<(), AllocError>
     ensures { OnOk result (string_bytes out.new ≡ string_bytes out.old ++ decimal number) }
 {
     let mut digits = Buffer::new();
@@ -21,20 +21,18 @@ fn push_number(out: &mut String, number: usize) -> Result<(), AllocError>
 }
 
 /// Appends the name of a binder, by how many binders are around it.
-pub fn push_binder(out: &mut String, level: usize) -> Result<(), AllocError>
+pub fn push_binder(out: &mut String, level: u128) -> Result<(), AllocError>
     ensures { OnOk result (string_bytes out.new ≡ string_bytes out.old ++ binder level) }
 {
-    match NAMES.get(level) {
-        Some(name) => out.push(*name),
-        None => {
-            out.push_str("x")?;
-            push_number(out, level)
-        }
+    if level < NAMES.len() as u128 {
+        return out.push(NAMES[level as usize]);
     }
+    out.push_str("x")?;
+    push_number(out, level)
 }
 
 // Appends a variable, which counts binders outward from its cell.
-fn push_variable(out: &mut String, binders: usize, argument: usize) -> Result<(), AllocError>
+fn push_variable(out: &mut String, binders: u128, argument: u128) -> Result<(), AllocError>
     ensures { OnOk result (string_bytes out.new
         ≡ string_bytes out.old ++ variable_text binders argument) }
 {
@@ -61,29 +59,29 @@ fn push_gate(out: &mut String, number: u16) -> Result<(), AllocError>
         Ok(Gate::Toffoli) => out.push_str("TOF"),
         Err(_) => {
             out.push_str("(gate ")?;
-            push_number(out, number as usize)?;
+            push_number(out, number as u128)?;
             out.push_str(")")
         }
     }
 }
 
 // Appends the qubit with a handle.
-fn push_qubit(out: &mut String, handle: usize) -> Result<(), AllocError>
+fn push_qubit(out: &mut String, handle: u16) -> Result<(), AllocError>
     ensures { OnOk result (string_bytes out.new ≡ string_bytes out.old ++ qubit_text handle) }
 {
     out.push_str("|")?;
-    push_number(out, handle)?;
+    push_number(out, handle as u128)?;
     out.push_str(">")
 }
 
 /// Appends a cell that has no parts, under so many binders.
-pub fn push_leaf(out: &mut String, cell: TermCell, binders: usize) -> Result<(), AllocError>
+pub fn push_leaf(out: &mut String, cell: TermCell, binders: u128) -> Result<(), AllocError>
     ensures { OnOk result (string_bytes out.new ≡ string_bytes out.old ++ leaf_text binders cell) }
 {
     match cell.op {
-        'v' => push_variable(out, binders, cell.argument as usize),
+        'v' => push_variable(out, binders, cell.argument as u128),
         'g' => push_gate(out, cell.argument),
-        'q' => push_qubit(out, cell.argument as usize),
+        'q' => push_qubit(out, cell.argument),
         'm' => out.push_str("meas"),
         'n' => out.push_str("new"),
         's' => out.push_str("*"),

@@ -118,7 +118,7 @@ impl Tape {
     }
 
     /// Lets go the live qubits that a test names.
-    pub fn let_go<F: Fn(u16) -> bool>(&mut self, is_gone: F)
+    pub(crate) fn let_go<F: Fn(u16) -> bool>(&mut self, is_gone: F)
         requires { F.IsAlwaysCallable is_gone }
     {
         self.live.retain(|handle| !is_gone(*handle));

@@ -83,7 +83,7 @@ fn push_term_column(
         ≡ string_bytes out.old ++ cut TERM_WIDTH (term_shown cells.now binders)) }
 {
     let mut term = String::new(alloc);
-    push_term(&mut term, cells, binders as usize, Around::Open)?;
+    push_term(&mut term, cells, binders, Around::Open)?;
     push_cut(out, term.as_bytes(), TERM_WIDTH)
 }
 
