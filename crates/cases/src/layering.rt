@@ -205,3 +205,21 @@ fn next_handles(rt: HostRuntime) -> Result<(), Fail> {
     assert_eq!(rt; capped.prepare(true)?, 2);
     holds(&rt, &capped, 0b100, 2, 1)
 }
+
+// A journal of three entries of which two pulses were made.
+#[rattlefmt::skip]
+const JOURNAL: [Entry; 3] = [
+    Entry::Prepare { handle: 0, bit: true },
+    Entry::Read { handle: 0, outcome: true },
+    Entry::Empty,
+];
+
+#[test]
+fn journal_below_caps(rt: HostRuntime) -> Result<(), Fail> {
+    let mut entries = [Entry::Empty; 3];
+    let mut register = Cap::new(Cap::new(Tape::new(4, &OUTCOMES, &mut entries), 3), 2);
+    let handle = register.prepare(true)?;
+    assert!(rt; register.read(handle)?);
+    assert_eq!(rt; register.below().below().journal(), JOURNAL);
+    Ok(())
+}

@@ -49,7 +49,7 @@ module _ {R : Type 0} (kind : Ghosts R) where
   LoadCarries types terms c result =
       LoadPlace (kind.meaning c.register).makes (held c.shot) (term_meant types terms 0) result
 
-  -- the same of the step at which a run has stopped
+  -- The step at which a run has stopped is refused by the lowest row that holds for it.
   abbrev pub StopAnsweredBy : Shot → R → Result (ℕ × Stop) Refusal → Type 0
   StopAnsweredBy shot register (Ok (made, Value)) = Unit {0}
   StopAnsweredBy shot register (Ok (made, Budget)) = Unit {0}

@@ -35,8 +35,8 @@ none_live = replicate 32 false
 abbrev pub Live : {C : Type 0} → Meaning C → ℕ → Type 0
 Live m h = is_live m.live h ≡ true
 
--- Two answers are each register's own. The outcome of a read is 0 or 1. The handle of a prepare is
--- any that is below 32 and not live, where a pulse is left and there is room.
+-- The handle of a prepare is each register's own: any that is below 32 and not live, where a pulse
+-- is left and there is room.
 abbrev pub Fresh : {C : Type 0} → Meaning C → ℕ → Type 0
 Fresh m fresh =
     0 < m.pulses → counted m.live < m.capacity

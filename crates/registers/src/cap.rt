@@ -28,6 +28,13 @@ impl<R: Register> Cap<R> {
         below.clear();
         Cap { below, limit }
     }
+
+    /// The register below, for questions.
+    pub fn below(&self) -> &R
+        ensures { result.now ≡ self.now.below }
+    {
+        &self.below
+    }
 }
 
 // A fault from below is one layer deeper.

@@ -21,7 +21,8 @@ pub trait Register {
 
     ghost meaning: { Self → Meaning Content };
 
-    // Two answers are each register's own: the handle of the next prepare, and what a read gives.
+    // Three answers are each register's own. They are the handle of the next prepare, what a read
+    // gives, and the depth that a refusal comes from.
     ghost fresh: { Self → ℕ };
 
     ghost outcome: { Self → ℕ → Bool };
@@ -33,7 +34,7 @@ pub trait Register {
     ghost owed: { (s : Self) → Owed (meaning s) (fresh s) };
 
     // The tables that it was lent and holds by `&mut`, by their ghost names. No call exchanges
-    // them. So their owner knows what they hold when the register is gone.
+    // them. So the owner of a tape's journal knows what it holds when the tape is gone.
     ghost lent: { Self → List GName } = { λ _. [] };
 
     /// How many qubits may be live at once, at most 32.

@@ -1,5 +1,5 @@
--- The sheet of the controller's refusals: one constructor to a row. The register's rows are from
--- its own sheet.
+-- The sheet of the controller's refusals: a constructor to a row and a call. The register's rows
+-- are from its own sheet.
 use Rattle.std.specs.Prelude.{◌≡◌, ℕ, ◌<◌, false, ◌⊎◌, length, Some, None, Option}
 use Rattle.calculus.specs.declared.limits.TheConstants.{MOST_RUNNING_CELLS}
 use Rattle.calculus.specs.declared.gates.Gate.{Gate}

@@ -46,5 +46,5 @@ pub record UnsoundPlaces : Type 0 where
   pub named_dead : MissesNames qubit qbit none_live
   pub another_type : MissesType zero_bit qbit none_live
   pub gate_not_made : MissesWant (app tt (const tt (gate H)) qubit) qbit one_live
-  -- a way names a qubit twice, by which alone the live handles are not those that the term names
+  -- a way names a qubit twice; the live handles are those that the term names, and as many
   pub named_twice : LiveAreNamed (pair tt qubit qubit) (register_with one_live 1 one_live) → ⊥
