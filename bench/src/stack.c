@@ -132,6 +132,31 @@ static void arguments(unsigned n) /* H (H (.. (new 0))) */
     node('0', 0, 5);
 }
 
+/* H (H (.. ((fun x. new 0) (fun y. 0)))): below all applications two types of so many levels are compared. */
+enum { COMPARED_LEVELS = 123 };
+
+static void compared(unsigned n)
+{
+    begin();
+    types("q>qq>bq>");
+    for (unsigned i = 0; i < COMPARED_LEVELS; i++)
+        types(">");
+    for (unsigned i = 0; i <= COMPARED_LEVELS; i++)
+        types("b");
+    types("q");
+    for (unsigned i = 0; i < n; i++) {
+        node('a', 0, 0);
+        node('g', 0, 1);
+    }
+    node('a', 0, 0);
+    node('l', 0, 7);
+    node('a', 0, 0);
+    node('n', 0, 4);
+    node('0', 0, 5);
+    node('l', 0, 8);
+    node('0', 0, 5);
+}
+
 static void functions(unsigned n) /* fun f. f 0 0 .. 0 */
 {
     begin();
@@ -344,6 +369,7 @@ struct shape {
 
 static const struct shape programs[] = {
     {"applications in the argument", arguments, 254},
+    {"the same, over deep types", compared, 252},
     {"applications in the function", functions, 126},
     {"lambdas", lambdas, 32},
     {"pairs in the right part", pairs_right, 127},

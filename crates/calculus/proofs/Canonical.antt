@@ -1,4 +1,4 @@
--- Lemma 11 and progress.
+-- The forms of values, and progress.
 use Rattle.std.proofs.Common.{◌≡◌, ℕ, zero, suc, Bool, true, false, ◌⊎◌, List, [], ◌∷◌, Some, sym, refl, ap, ◌∙◌, subst, ap₂, inl, inr, ⊎_elim, arith}
 use Rattle.calculus.specs.Types.{Ty, bit, qbit, unit, bang, arrow, tensor, bangs, Sub, sub_bit, sub_qbit, sub_unit, sub_use, sub_keep, sub_tensor, sub_arrow}
 use Rattle.calculus.specs.declared.gates.Gate.{Gate}
@@ -39,7 +39,7 @@ sub_head (sub_keep p) = sub_head p
 sub_head (sub_tensor p q) = refl
 sub_head (sub_arrow p q) = refl
 
--- Lemma 11: the head of its type tells the form of a value.
+-- The head of its type tells the form of a value.
 pub data Form : Running → Head → Type 0 where
   form_bit : {c : Unit {0}} {b : Bool} → Form (const c (bit_of b)) bits
   form_measure : {c : Unit {0}} → Form (const c meas) functions

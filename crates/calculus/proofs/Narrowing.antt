@@ -1,4 +1,4 @@
--- Lemma 8: a derivation carries over to any context that has, at the term's free variables, as much or more, and to any type above.
+-- A derivation carries over to any context that has, at the term's free variables, as much or more, and to any type above.
 use Rattle.std.proofs.Common.{◌≡◌, ℕ, zero, suc, ◌⊎◌, Some, None, Option, refl, inl, inr, ⊎_elim}
 use Rattle.calculus.specs.Types.{Ty, bang, arrow, tensor, bangs, Sub, sub_bit, sub_arrow, Duplicable}
 use Rattle.calculus.specs.Terms.{Var, bound, held, under, lam, Running, Free, free_var, free_lam, free_fun, free_arg, free_left, free_right, free_test, free_then, free_else, free_pair, free_body}

@@ -1,4 +1,4 @@
--- Lemma 10: a value may stand for a variable of its type.
+-- A value may stand for a variable of its type.
 use Rattle.std.proofs.Common.{◌≡◌, ℕ, zero, suc, ◌-◌, ◌<◌, ◌≤◌, List, [], ◌∷◌, Some, None, Option, sym, refl, ap, ◌∙◌, subst, ap₂, arith}
 use Rattle.calculus.specs.Types.{Ty, bang, bangs, Sub}
 use Rattle.calculus.specs.Terms.{Var, bound, held, var, const, star, lam, app, pair, if_then_else, let_pair, Running, Free, free_lam}
@@ -173,7 +173,7 @@ module _ (v : Running) (is : Value v) where
       (replace n r₂ (suc (suc k)) q.1 (extended (bangs l b) (extended (bangs l a) q.3)) q.5
       (suffices_under (suc k) (bangs l b) (extended (bangs l a) q.3) (extended (bangs l a) γ₂) q.1 (suffices_under k (bangs l a) q.3 γ₂ q.1 q.7)))
 
--- Lemma 10
+-- where the variable is inserted, and the other variables past it
 inserted_here : (k : ℕ) (a : Ty) (γ : Context) → inserted k a γ (bound k) ≡ Some a
 inserted_here zero a γ = refl
 inserted_here (suc k) a γ = inserted_here k a (outer γ)

@@ -56,7 +56,7 @@ both_sides (sub_arrow p q) = ((λ c. after_arrow c (both_sides p).1 (both_sides 
 pub sub_trans : {a b c : Ty} → Sub a b → Sub b c → Sub a c
 sub_trans p q = (both_sides p).0 _ q
 
--- Lemma 4, at what (m = 0) ∨ (n ≥ 1) says of the two numbers.
+-- Marks may be dropped, and changed for others while one is left.
 pub sub_drop : (n : ℕ) {a b : Ty} → Sub a b → Sub (bangs n a) b
 sub_drop zero p = p
 sub_drop (suc n) p = sub_use (sub_drop n p)
@@ -65,7 +65,7 @@ pub sub_bangs : (n m : ℕ) {a b : Ty} → Sub a b → Sub (bangs (suc n) a) (ba
 sub_bangs n zero p = sub_drop (suc n) p
 sub_bangs n (suc m) p = sub_keep (sub_bangs n m p)
 
--- Lemma 7
+-- What is below a duplicable type is duplicable.
 pub sub_duplicable : {a b : Ty} → Sub a b → Duplicable b → Duplicable a
 sub_duplicable (sub_use p) d = tt
 sub_duplicable (sub_keep p) d = tt

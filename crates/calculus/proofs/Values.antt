@@ -1,4 +1,4 @@
--- Lemma 9, and what a context of nothing but qubits says of a term.
+-- What is free in a value of a duplicable type is duplicable. And what a context of nothing but qubits says of a term.
 use Rattle.std.proofs.Common.{◌≡◌, ℕ, zero, suc, ◌<◌, true, ltb, List, Some, None, Option, refl, ap, subst, ap₂, arith}
 use Rattle.calculus.specs.Types.{Ty, qbit, tensor, bangs, Duplicable}
 use Rattle.calculus.specs.Terms.{Var, bound, held, under, var, const, star, lam, app, pair, if_then_else, let_pair, Running, Free, free_var, free_lam, free_fun, free_arg, free_left, free_right, free_test, free_then, free_else, free_pair, free_body}
@@ -24,7 +24,7 @@ nobody to_left e = (e, refl)
 nobody to_right e = (refl, e)
 nobody to_both e = (e, e)
 
--- Lemma 9
+-- What is free in a value of a duplicable type is duplicable.
 bangs_duplicable : (k : ℕ) (a b c : Ty) {t : Ty} → t ≡ bangs k (tensor a b) → Duplicable t → Duplicable (bangs k c)
 bangs_duplicable zero a b c e d = absurd (subst Duplicable e d)
 bangs_duplicable (suc k) a b c e d = tt

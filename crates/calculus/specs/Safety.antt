@@ -41,7 +41,7 @@ GatesAreApart =
 abbrev pub NoWayNamesTwice : Type 0
 NoWayNamesTwice = (m : Running) (a : Ty) (hs : List ℕ) → WellTyped m a → Way m hs → Distinct hs
 
--- No rule but one applies, and it leaves one term for each answer.
+-- A term and what happens at its step determine the next term.
 abbrev pub Deterministic : Type 0
 Deterministic = (m n n' : Running) (e : Effect) → Reduces m e n → Reduces m e n' → n ≡ n'
 

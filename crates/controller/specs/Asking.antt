@@ -28,11 +28,11 @@ abbrev pub if_ok : {A B F : Type 0} → Result A F → B → (A → B) → B
 if_ok (Ok x) b f = f x
 if_ok (Err e) b f = b
 
--- A cell of those from a redex on. Where they are no redex of the rule there is no rule for them.
+-- A cell of those from a redex on. Where they end before it there is no rule for them.
 abbrev pub cell_at : List TermCell → ℕ → Result TermCell ControllerFault
 cell_at cs at = ok_or (slice_get cs at) NoRule
 
--- the handle that a cell names
+-- the argument of a cell, where it is a handle
 abbrev pub handle_in : TermCell → Result ℕ ControllerFault
 handle_in c = if nat_lt c.argument 32 then Ok c.argument else Err NoRule
 

@@ -30,7 +30,7 @@ impl<'a> Redex<'a> {
             .ok_or(ControllerFault::NoRule)
     }
 
-    // The handle of the qubit that the cell so many places on names.
+    // The argument of the cell so many places on, where it is a handle.
     fn qubit(&self, place: usize) -> Result<u8, ControllerFault>
         ensures { result ≡ qubit_at self.now.cells.now place }
     {

@@ -1,5 +1,5 @@
 -- An accepted call that spends a pulse finds one.
-use Rattle.std.proofs.Common.{◌≡◌, ◌+◌, refl, arith}
+use Rattle.std.proofs.Common.{arith}
 use Rattle.registers.specs.declared.register.Register.{Ghosts}
 use Rattle.registers.specs.Depth.{depths}
 use Rattle.registers.specs.Deeds.{prepares, applies, reads, lets_go, clears}
