@@ -3,9 +3,10 @@
 
 ghost use Rattle.worked.specs.Worked.{WorkedTerms};
 
-/// Of each worked term and each constant there holds what stands in one table: its verdict and its
-/// derivation, or the refusal and that there is none; whether a type is below another; where no
-/// rule applies; which term some steps lead to, and how many qubits are then live.
+/// What stands in one table holds. Of each worked term and each constant: its verdict and its
+/// derivation, or the refusal and that there is none. Of tables past a limit, or that store no
+/// program: the refusal. Of two types: whether one is below the other. Of a running term: where no
+/// rule applies, or which term some steps lead to, and how many qubits are then live.
 pub fn worked_terms_hold()
     ensures { WorkedTerms }
 {}
