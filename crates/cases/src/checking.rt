@@ -66,6 +66,7 @@ const TABLES: &[Case] = &[
     Case("b", "0.9 0.9", Some((22, 1))),
     Case("b", "a v7 0.9", Some((23, 2))),
     Case("b", "a.5 v7 0.9", Some((23, 0))),
+    Case("b", "p.9 q 0", Some((21, 1))),
 ];
 
 #[rattlefmt::skip]
@@ -140,6 +141,8 @@ const RULES: &[Case] = &[
     Case("*bb", "p v9.1 s.2", Some((25, 1))),
     Case("*bb", "p s.1 v9.2", Some((26, 1))),
     Case(">q!>bb", "l l.2 v1.5", Some((26, 2))),
+    Case(">q**qqb", "l p.2 p.3 v.4 v.5 v9.6", Some((27, 2))),
+    Case(">q!>b*qb", "l l.2 p.5 v1.6 v9.7", Some((25, 4))),
 ];
 
 fn judge(rt: &impl Abort, heap: Global, cases: &[Case]) -> Result<(), Fail> {
@@ -228,7 +231,8 @@ fn claims(rt: HostRuntime) -> Result<(), Fail> {
 }
 
 // So many functions within each other, all of bits, the innermost body, and the verdict. The type
-// of that body stands at twice the number of functions, and after it a pair of bits and a qubit.
+// of that body stands at twice the number of functions, and after it a pair of bits, a qubit and a
+// function whose argument is a duplicable function.
 #[rattlefmt::skip]
 const NESTED: &[(usize, &str, Verdict)] = &[
     (32, "v31.64", None),
@@ -244,12 +248,15 @@ const NESTED: &[(usize, &str, Verdict)] = &[
     (31, "l.63 v.62", Some((26, 30))),
     (32, "l.68 v.64", Some((26, 31))),
     (2, "l.8 v.4", Some((26, 1))),
+    // The last function's variable in two parts, and in a duplicable function: tested later.
+    (32, "a.64 l.62 v1.64 v.64", Some((24, 33))),
+    (31, "a.62 l.67 0.62 l.68 a.62 l.69 v2.62 0.62", Some((24, 36))),
 ];
 
 // The types and the cells of so many functions within each other.
 fn nested(heap: Global, functions: usize, body: &str) -> Result<(String, String), AllocError> {
     let mut types = ">b".repeat(heap, functions)?;
-    types.push_str("b*bbq")?;
+    types.push_str("b*bbq>!>bbb")?;
     let mut cells = String::new(heap);
     for i in 0..functions {
         add_word(&mut cells, "l", i.wrapping_mul(2))?;

@@ -1,6 +1,6 @@
 //! A step to a term of exactly 1,024 cells, and one that would make more.
 
-use crate::making::{KIND_MARK, MARK, add_word, kinds, starts_with, terms};
+use crate::making::{KIND_MARK, MARK, add_word, front_of, kinds, starts_with, terms};
 use checker::check as check_program;
 use controller::Controller;
 use registers::{Level, Register};
@@ -94,17 +94,19 @@ fn grows(
     starts_with(rt, &value, due.as_slice(), MARK, case)
 }
 
-// The step is refused, and nothing is written.
-fn is_too_long(
+// The step with a work table of so many cells is refused by a number, and nothing is written.
+fn is_refused(
     rt: &impl Abort,
     controller: &mut Controller<Level>,
+    room: usize,
+    number: u16,
     case: &str,
 ) -> Result<(), Fail> {
     let mut work = [MARK; 1024];
     let answer = controller
-        .step(&mut work)
+        .step(front_of(&mut work, room))
         .map_err(|refusal| (refusal.fault.number(), refusal.place));
-    assert_eq!(rt; answer, Err((37, 0)), "{case}");
+    assert_eq!(rt; answer, Err((number, 0)), "{case}");
     starts_with(rt, &work, &[], MARK, case)?;
     assert_eq!(rt; controller.register().pulses(), 3, "{case}");
     Ok(())
@@ -124,8 +126,9 @@ fn next_term(rt: &impl Abort, heap: Global, case: Size) -> Result<(), Fail> {
     if case.next <= 1024 {
         return grows(rt, heap, &mut controller, due.as_str(), label);
     }
-    is_too_long(rt, &mut controller, label)?;
-    is_too_long(rt, &mut controller, label)
+    is_refused(rt, &mut controller, 1024, 37, label)?;
+    is_refused(rt, &mut controller, 1023, 34, label)?;
+    is_refused(rt, &mut controller, 1024, 37, label)
 }
 
 #[test]

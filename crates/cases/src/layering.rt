@@ -208,7 +208,7 @@ fn next_handles(rt: HostRuntime) -> Result<(), Fail> {
 
 // A journal of three entries of which two pulses were made.
 #[rattlefmt::skip]
-const JOURNAL: [Entry; 3] = [
+const JOURNAL: &[Entry] = &[
     Entry::Prepare { handle: 0, bit: true },
     Entry::Read { handle: 0, outcome: true },
     Entry::Empty,

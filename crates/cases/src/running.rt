@@ -135,10 +135,12 @@ fn on_a_tape(rt: HostRuntime) -> Result<(), Fail> {
     on_tape(&rt, rt.alloc(), 8, &mut [Entry::Empty; 64], REFUSED)?;
     on_tape(&rt, rt.alloc(), 8, &mut [Entry::Empty; 64], RUNS)?;
     on_tape(&rt, rt.alloc(), 8, &mut [Entry::Empty; 1], SPENT)?;
+    on_tape(&rt, rt.alloc(), 1, &mut [Entry::Empty; 1], SPENT)?;
     on_tape(&rt, rt.alloc(), 1, &mut [Entry::Empty; 64], FULL)
 }
 
-// On a tape with one pulse, with the steps since the load in every refusal.
+// On a tape with one pulse, and room for one qubit or more, with the steps since the load in every
+// refusal.
 #[rattlefmt::skip]
 const SPENT: &[Turn] = &[
     Turn(Call::Load(TWO), Ok(Reply::Cells(7)), "", 0, 1),
@@ -159,6 +161,7 @@ const FULL: &[Turn] = &[
     Turn(Call::Load(TWO), Ok(Reply::Cells(7)), "", 0, 64),
     Turn(Call::Step(1024), Ok(Reply::Cells(5)), "p q a n 1", 1, 63),
     Turn(Call::Step(1024), Err((42, 1, 0)), "", 1, 63),
+    Turn(Call::Step(1023), Err((34, 1, 0)), "", 1, 63),
     Turn(Call::Run(9, 1024), Ok(Reply::Stopped(0, 42, 1, 0)), "", 1, 63),
     Turn(Call::Abandon, Ok(Reply::Done), "", 0, 63),
     Turn(Call::Load(KEPT), Ok(Reply::Cells(3)), "", 0, 63),

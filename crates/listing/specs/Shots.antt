@@ -1,5 +1,5 @@
 -- Stored programs with their whole listings, computed from the text.
-use Rattle.std.specs.Prelude.{◌≡◌, ℕ, List, [], ◌∷◌, codes}
+use Rattle.std.specs.Prelude.{◌≡◌, ℕ, List, [], ◌∷◌, ◌++◌, replicate, codes}
 use Rattle.listing.specs.Listed.{listing_of}
 use Rattle.listing.specs.Written.{printed, stored}
 
@@ -17,11 +17,29 @@ coin_lines = codes "S 3 0/T b/M 0 0/J 0 P 0 0 - -/J 1 G 0 0 - -/J 2 R 0 0 - -/" 
 abbrev pub empty : List (List ℕ)
 empty = []
 
+-- a header of another format, which the reader refuses
+abbrev pub other_format : List (List ℕ)
+other_format =
+    codes "QL 2/T b/M 0 0 0/E 1 1/"
+    ∷ []
+
+-- a type after a term, which the reader refuses at line 4
+abbrev pub type_after_term : List (List ℕ)
+type_after_term =
+    codes "QL 1/T b/M 0 0 0/T b/E 2 1/"
+    ∷ []
+
 -- a number with a leading zero, which the reader refuses at line 3
 abbrev pub leading_zero : List (List ℕ)
 leading_zero =
     codes "QL 1/T b/M 0 0 00/E 1 1/"
     ∷ []
+
+-- 257 types, for the last of which there is no room: the reader refuses its line
+abbrev pub too_many_types : List (List ℕ)
+too_many_types =
+    (codes "QL 1/" ∷ replicate 257 (codes "T b/"))
+    ++ (codes "M 0 0 0/E 257 1/" ∷ [])
 
 -- gate 8, which there is not, and which the checker refuses
 abbrev pub no_such_gate : List (List ℕ)
@@ -67,7 +85,10 @@ flips =
 pub record TextsAreListed : Type 0 where
   pub of_coin : listing_of (stored coin) ≡ printed coin_lines
   pub of_empty : listing_of (stored empty) ≡ printed (codes "X 15 1/" ∷ [])
+  pub of_other_format : listing_of (stored other_format) ≡ printed (codes "X 11 1/" ∷ [])
+  pub of_type_after_term : listing_of (stored type_after_term) ≡ printed (codes "X 12 4/" ∷ [])
   pub of_leading_zero : listing_of (stored leading_zero) ≡ printed (codes "X 13 3/" ∷ [])
+  pub of_too_many_types : listing_of (stored too_many_types) ≡ printed (codes "X 14 258/" ∷ [])
   pub of_no_such_gate : listing_of (stored no_such_gate) ≡ printed (codes "X 21 1/" ∷ [])
   pub of_gate_on_a_bit : listing_of (stored gate_on_a_bit) ≡ printed (codes "X 26 0/" ∷ [])
   pub of_ninth_qubit : listing_of (stored ninth_qubit) ≡ printed ninth_qubit_lines

@@ -26,7 +26,10 @@ unfolding digits encode_utf8 run_from
 returns c = record {
   of_coin = refl;
   of_empty = refl;
+  of_other_format = refl;
+  of_type_after_term = refl;
   of_leading_zero = refl;
+  of_too_many_types = refl;
   of_no_such_gate = refl;
   of_gate_on_a_bit = refl;
   of_ninth_qubit = refl;
