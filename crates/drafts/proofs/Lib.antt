@@ -1,2 +1,3 @@
+pub mod Applications
 pub mod Places
 pub mod Programs
