@@ -1,5 +1,5 @@
 -- The cells of programs that spend pulses, hold qubits or run long, piece by piece.
-use Rattle.std.proofs.Common.{◌≡◌, ℕ, zero, suc, ◌+◌, ◌*◌, true, false, List, [], ◌∷◌, ◌++◌, map, refl, ap, ◌∙◌, arith}
+use Rattle.std.proofs.Common.{◌≡◌, ℕ, zero, suc, ◌+◌, ◌*◌, true, List, [], ◌∷◌, ◌++◌, map, refl, ap, ◌∙◌, arith}
 use Rattle.std.specs.List.{repeat, list_all}
 use Rattle.std.specs.Prelude.{nat_lt}
 use Rattle.std.specs.Str.{chars, IsAscii}
@@ -17,10 +17,6 @@ use Rattle.drafts.proofs.Programs.{ascii, no_bytes, one_byte, wraps_cells}
 -- the cells of a text that is written out
 pub letters : (bs : List ℕ) → list_all (λ b. nat_lt b 128) bs ≡ true → map kind_cell (chars bs) ≡ map kind_cell bs
 letters bs e = ap (map kind_cell) (chars-IsAscii bs (ascii bs e))
-
--- Cells that are added twice are added at once.
-pub added : {A : Type 0} {mid new : List A} (old xs ys : List A) → mid ≡ old ++ xs → new ≡ mid ++ ys → new ≡ old ++ (xs ++ ys)
-added old xs ys e f = f ∙ ap (λ (cs : List _). cs ++ ys) e ∙ append_assoc old xs ys
 
 -- An application more may stand within or around.
 within : (n c : ℕ) (f m : Term ℕ) → applied n c f (app c f m) ≡ applied (suc n) c f m

@@ -1,8 +1,7 @@
 -- The types and the terms of programs that spend pulses, hold qubits or run long; each node claims a
 -- place of the type table.
 use Rattle.std.specs.Prelude.{ℕ, zero, suc, ◌+◌, ◌-◌, ◌*◌, true, false, List, [], ◌∷◌, ◌++◌}
-use Rattle.calculus.specs.Alphabet.{op_application, op_pair, op_new, op_one}
-use Rattle.calculus.specs.declared.cells.TypeCell.{TypeCell}
+use Rattle.calculus.specs.Alphabet.{op_application, op_pair}
 use Rattle.calculus.specs.declared.cells.TermCell.{TermCell}
 use Rattle.calculus.specs.declared.gates.Gate.{Gate}
 use Rattle.calculus.specs.declared.gates.Gate.TheVariants.{H}
@@ -105,8 +104,8 @@ negated = if_then_else 0 (var 1 (bound 0)) zero_bit (const 0 (bit_of true))
 abbrev pub turning_function : Term ℕ
 turning_function = lam 18 (lam 7 (let_pair 0 (pair 13 negated (var 0 (bound 0)))
     (if_then_else 0 (var 1 (bound 0))
-        (app 0 (var 2 (bound 3)) (app 0 (var 2 (bound 3)) (var 0 (bound 1))))
-        (app 0 (var 2 (bound 3)) (var 0 (bound 1))))))
+    (app 0 (var 2 (bound 3)) (app 0 (var 2 (bound 3)) (var 0 (bound 1))))
+    (app 0 (var 2 (bound 3)) (var 0 (bound 1))))))
 
 abbrev pub turned_negation : ℕ → Term ℕ
 turned_negation n = applied (n - 1) 7 (var 19 (bound 0)) (lam 7 negated)
@@ -125,7 +124,7 @@ entangled_types = tensor bit bit ∷ tensor (arrow unit bit) (arrow unit bit) �
 abbrev pub entangled_qubits : Gate → Term ℕ
 entangled_qubits u = app 10 (const 13 (gate u))
     (pair 10 (app 11 (const 20 (gate H)) (app 11 (const 23 new) (const 1 (bit_of false))))
-        (app 11 (const 23 new) (const 1 (bit_of true))))
+    (app 11 (const 23 new) (const 1 (bit_of true))))
 
 -- a function that reads the qubit that a variable is
 abbrev pub reader : ℕ → Term ℕ
@@ -134,4 +133,4 @@ reader i = lam 4 (app 1 (const 26 meas) (var 11 (bound i)))
 abbrev pub entangled_term : Gate → Term ℕ
 entangled_term u =
     let_pair 0 (let_pair 3 (entangled_qubits u) (pair 3 (reader 2) (reader 1)))
-        (pair 0 (app 1 (var 4 (bound 1)) (star 29)) (app 1 (var 4 (bound 0)) (star 29)))
+    (pair 0 (app 1 (var 4 (bound 1)) (star 29)) (app 1 (var 4 (bound 0)) (star 29)))

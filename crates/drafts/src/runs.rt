@@ -164,12 +164,7 @@ fn doubled(draft: &mut Draft, depth: usize) -> Result<(), AllocError>
 }
 
 /// A long run: the identity is doubled so many times over, so often, after so many steps more.
-pub fn doublings(
-    heap: Global,
-    times: usize,
-    depth: usize,
-    more: usize,
-) -> Result<Draft, AllocError>
+pub fn doublings(heap: Global, times: usize, depth: usize, more: usize) -> Result<Draft, AllocError>
     ensures types { IfOk result (λ draft. draft.types.items ≡ table doubling_types) }
     ensures terms { IfOk result (λ draft. draft.terms.items
         ≡ placed_cells (doublings_term times depth more)) }

@@ -1,11 +1,10 @@
-use Rattle.std.proofs.Common.{◌≡◌, ℕ, List, [], ◌∷◌, ◌++◌, map, refl, ap, ap₂, ◌∙◌, rules, arith}
+use Rattle.std.proofs.Common.{◌≡◌, List, [], ◌∷◌, ◌++◌, refl, ap, ap₂, ◌∙◌, rules, arith}
 use Rattle.std.specs.Prelude.{codes}
-use Rattle.std.specs.Str.{chars}
 use Rattle.std.proofs.lemmas.List.{append_assoc}
 use Rattle.calculus.specs.Alphabet.{op_function, op_application}
 use Rattle.calculus.specs.declared.cells.TypeCell.{TypeCell}
 use Rattle.calculus.specs.declared.cells.TermCell.{TermCell}
-use Rattle.calculus.specs.Cells.{kind_cell, cell_of, placed_cells}
+use Rattle.calculus.specs.Cells.{cell_of, placed_cells}
 use Rattle.drafts.specs.Limits.{zero_bit, wrapped}
 use Rattle.drafts.specs.Runs.{applications, doubled_identity, doubling_function}
 use Rattle.drafts.proofs.Applications.{letters, applied_then, wraps_then}
@@ -21,6 +20,6 @@ pub returns-clause-terms : goal.returns-clause-terms
 returns-clause-terms c =
     let start : c.cells.new.self.terms.items ≡ cell_of op_application 0 0 ∷ cell_of op_function 0 35 ∷ [] = search rules in
     simp (c.in_ok-cell.ensures.terms, c.in_ok-cells-3.ensures.terms, c.in_ok-cells-2.ensures.terms, c.in_ok-wrap.ensures.terms, c.loop.invariant.1, start, append_assoc)
-        (ap (λ (cs : List TermCell). cell_of op_application 0 0 ∷ cell_of op_function 0 35 ∷ (applications c.loop.counter 0 (doubled_identity c.args.depth) ++ cs)) (wraps_then c.args.more zero_bit (placed_cells doubling_function))
-        ∙ ap (λ (cs : List TermCell). cell_of op_application 0 0 ∷ cell_of op_function 0 35 ∷ cs)
-            (applied_then c.loop.counter c.args.times 0 (doubled_identity c.args.depth) (wrapped c.args.more zero_bit) (placed_cells doubling_function) (omega arith)))
+    (ap (λ (cs : List TermCell). cell_of op_application 0 0 ∷ cell_of op_function 0 35 ∷ (applications c.loop.counter 0 (doubled_identity c.args.depth) ++ cs)) (wraps_then c.args.more zero_bit (placed_cells doubling_function))
+    ∙ ap (λ (cs : List TermCell). cell_of op_application 0 0 ∷ cell_of op_function 0 35 ∷ cs)
+    (applied_then c.loop.counter c.args.times 0 (doubled_identity c.args.depth) (wrapped c.args.more zero_bit) (placed_cells doubling_function) (omega arith)))

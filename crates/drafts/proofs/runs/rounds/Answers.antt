@@ -11,8 +11,8 @@ use Rattle.drafts.proofs.runs.rounds.Goals as goal
 pub returns-clause-types : goal.returns-clause-types
 returns-clause-types c =
     let first : c.kinds.new.self.types.items ≡ map kind_cell (chars (repeat c.args.held (42 ∷ 113 ∷ []))) =
-          c.in_ok-kinds.ensures.types ∙ ap₂ (λ (cs ds : List TypeCell). cs ++ ds) c.new-draft.ensures.0
-          (ap (λ (bs : List ℕ). map kind_cell (chars bs)) (c.deref.ensures ∙ c.in_ok-repeat.ensures.bytes ∙ ap (λ (n : ℕ). repeat n (42 ∷ 113 ∷ [])) c.into.ensures)) in
+    c.in_ok-kinds.ensures.types ∙ ap₂ (λ (cs ds : List TypeCell). cs ++ ds) c.new-draft.ensures.0
+    (ap (λ (bs : List ℕ). map kind_cell (chars bs)) (c.deref.ensures ∙ c.in_ok-repeat.ensures.bytes ∙ ap (λ (n : ℕ). repeat n (42 ∷ 113 ∷ [])) c.into.ensures)) in
     let e : c.reread.new.draft.types.items ≡ c.kinds-2.new.self.types.items = search rules in
     e ∙ c.in_ok-kinds-2.ensures.types ∙ ap₂ (λ (cs ds : List TypeCell). cs ++ ds) first (letters (codes "b>bq>qb>bbq") refl) ∙ held_letters c.args.held _
 
