@@ -84,5 +84,6 @@ innermost_term b (Some i) = var b (bound i)
 innermost_term b None = let_pair b
     (pair (b + 1) (const b (bit_of false)) (const b (bit_of false))) (var b (bound 0))
 
+-- so many functions around that
 abbrev pub binders_term : ℕ → Option ℕ → Term ℕ
 binders_term n x = nested 0 n (innermost_term (2 * n) x)

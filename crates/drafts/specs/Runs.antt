@@ -1,5 +1,5 @@
--- The types and the terms of programs that spend pulses, hold qubits or run long; each node claims a
--- place of the type table.
+-- The types and the terms of programs that spend pulses, hold qubits or run long; each node claims
+-- a place of the type table.
 use Rattle.std.specs.Prelude.{ℕ, zero, suc, ◌+◌, ◌-◌, ◌*◌, true, false, List, [], ◌∷◌, ◌++◌}
 use Rattle.calculus.specs.Alphabet.{op_application, op_pair}
 use Rattle.calculus.specs.declared.cells.TermCell.{TermCell}
@@ -11,7 +11,7 @@ use Rattle.calculus.specs.Terms.{Term, var, const, star, lam, app, pair, if_then
 use Rattle.calculus.specs.Cells.{cell_of, placed_cells}
 use Rattle.drafts.specs.Limits.{common_types, zero_bit, wrapped}
 
--- a function, applied so many times over to a term
+-- a function, applied so many times over to a term; each application claims a place c
 abbrev pub applied : ℕ → ℕ → Term ℕ → Term ℕ → Term ℕ
 applied zero c f m = m
 applied (suc n) c f m = app c f (applied n c f m)
@@ -25,7 +25,7 @@ applications (suc n) c f = applications n c f ++ (cell_of op_application 0 c ∷
 abbrev pub pulse_types : List Ty
 pulse_types = qbit ∷ arrow qbit qbit ∷ arrow bit qbit ∷ bit ∷ []
 
--- a new qubit, through so many gates less the pulse that makes it
+-- a new qubit, through so many gates less the pulse that makes it: H each time
 abbrev pub pulsed : ℕ → Term ℕ
 pulsed n = applied (n - 1) 0 (const 1 (gate H)) (app 0 (const 4 new) (const 7 (bit_of false)))
 
@@ -34,7 +34,8 @@ abbrev pub held_type : ℕ → Ty
 held_type zero = bit
 held_type (suc n) = tensor qbit (held_type n)
 
--- these, with the bit at twice the count, and behind it b>q, q>b, b>b and q
+-- These at 0, with the bit at twice the count; and behind it, so far from it, b>q at 1, q>b at 4,
+-- b>b at 7, and q at 10.
 abbrev pub round_types : ℕ → List Ty
 round_types n = held_type n ∷ arrow bit qbit ∷ arrow qbit bit ∷ arrow bit bit ∷ qbit ∷ []
 
@@ -59,6 +60,7 @@ abbrev pub reread_bit : ℕ → ℕ → Term ℕ
 reread_bit b n = applied n b (lam (b + 7) (app b (const (b + 4) meas) (made b (var b (bound 0)))))
     (const b (bit_of false))
 
+-- such a bit, behind so many held qubits
 abbrev pub rounds_term : ℕ → ℕ → Term ℕ
 rounds_term h n = holding (2 * h) 0 h (reread_bit (2 * h) n)
 
@@ -68,15 +70,17 @@ doubling_types = common_types ++ (bang (arrow (bang (arrow bit bit)) (bang (arro
     ∷ arrow (bang (arrow bit bit)) (arrow bit bit)
     ∷ arrow (bang (arrow (bang (arrow bit bit)) (bang (arrow bit bit)))) bit ∷ [])
 
--- the identity, which the nearest variable doubles so many times and once more
+-- the identity, which the nearest variable doubles so many times, once at least
 abbrev pub doubled_identity : ℕ → Term ℕ
 doubled_identity n = app 1 (var 27 (bound 0))
     (applied (n - 1) 7 (var 18 (bound 0)) (lam 7 (var 0 (bound 0))))
 
 -- a function of a function, which applies it twice
 abbrev pub doubling_function : Term ℕ
-doubling_function = lam 17 (lam 7 (app 0 (var 1 (bound 1)) (app 0 (var 1 (bound 1)) (var 0 (bound 0)))))
+doubling_function =
+    lam 17 (lam 7 (app 0 (var 1 (bound 1)) (app 0 (var 1 (bound 1)) (var 0 (bound 0)))))
 
+-- so many uses of it, around so many identities around a bit
 abbrev pub doublings_term : ℕ → ℕ → ℕ → Term ℕ
 doublings_term n d k =
     app 0 (lam 35 (applied n 0 (doubled_identity d) (wrapped k zero_bit))) doubling_function
@@ -96,7 +100,7 @@ turn_types = free_bit ∷ arrow free_bit free_bit ∷ free_function ∷ tensor f
     ∷ arrow free_function (arrow free_bit free_bit)
     ∷ arrow (bang (arrow free_function free_function)) free_bit ∷ []
 
--- a bit's negation, of the nearest variable
+-- the negation of the nearest variable
 abbrev pub negated : Term ℕ
 negated = if_then_else 0 (var 1 (bound 0)) zero_bit (const 0 (bit_of true))
 
@@ -107,9 +111,11 @@ turning_function = lam 18 (lam 7 (let_pair 0 (pair 13 negated (var 0 (bound 0)))
     (app 0 (var 2 (bound 3)) (app 0 (var 2 (bound 3)) (var 0 (bound 1))))
     (app 0 (var 2 (bound 3)) (var 0 (bound 1))))))
 
+-- the function that negates, which the nearest variable turns so many times less one
 abbrev pub turned_negation : ℕ → Term ℕ
 turned_negation n = applied (n - 1) 7 (var 19 (bound 0)) (lam 7 negated)
 
+-- that function, turned once more and called with a bit
 abbrev pub turns_term : ℕ → Term ℕ
 turns_term n =
     app 0 (lam 44 (app 0 (app 2 (var 32 (bound 0)) (turned_negation n)) zero_bit)) turning_function
@@ -130,6 +136,7 @@ entangled_qubits u = app 10 (const 13 (gate u))
 abbrev pub reader : ℕ → Term ℕ
 reader i = lam 4 (app 1 (const 26 meas) (var 11 (bound i)))
 
+-- those qubits, a function that reads either, and a call of each
 abbrev pub entangled_term : Gate → Term ℕ
 entangled_term u =
     let_pair 0 (let_pair 3 (entangled_qubits u) (pair 3 (reader 2) (reader 1)))

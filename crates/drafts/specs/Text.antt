@@ -28,6 +28,7 @@ abbrev pub last_line : ℕ → ℕ → List ℕ
 last_line types terms =
     codes "E" ++ (tab ∷ decimal types ++ (tab ∷ decimal terms ++ (newline ∷ [])))
 
+-- the lines of a program: the first, one for each type cell and each term cell, and the last
 abbrev pub stored_text : List TypeCell → List TermCell → List ℕ
 stored_text types terms = first_line ++ (flat_map type_line types
     ++ (flat_map term_line terms ++ last_line (length types) (length terms)))

@@ -81,7 +81,7 @@ pub fn split_copies(heap: Global, times: usize, cells: usize) -> Result<Draft, A
     Ok(draft)
 }
 
-/// A qubit that spends so many pulses.
+/// A qubit that spends so many pulses, one at least.
 pub fn pulses(heap: Global, pulses: usize) -> Result<Draft, AllocError>
     ensures types { IfOk result (λ draft. draft.types.items ≡ table pulse_types) }
     ensures terms { IfOk result (λ draft. draft.terms.items ≡ placed_cells (pulsed pulses)) }
@@ -163,7 +163,8 @@ fn doubled(draft: &mut Draft, depth: usize) -> Result<(), AllocError>
     draft.cells(&[('l', 0, 7), ('v', 0, 0)])
 }
 
-/// A long run: the identity is doubled so many times over, so often, after so many steps more.
+/// A long run: the identity is doubled so many times over, once at least, and that so often, after
+/// so many steps more.
 pub fn doublings(heap: Global, times: usize, depth: usize, more: usize) -> Result<Draft, AllocError>
     ensures types { IfOk result (λ draft. draft.types.items ≡ table doubling_types) }
     ensures terms { IfOk result (λ draft. draft.terms.items
@@ -191,7 +192,7 @@ fn negation(draft: &mut Draft) -> Result<(), AllocError>
     draft.cells(&[('i', 0, 0), ('v', 0, 1), ('0', 0, 0), ('1', 0, 0)])
 }
 
-// The function that negates a bit, which the nearest variable turns so many times less the last.
+// The function that negates a bit, which the nearest variable turns so many times less one.
 fn turned(draft: &mut Draft, depth: usize) -> Result<(), AllocError>
     ensures terms { OnOk result (draft.new.terms.items
         ≡ draft.old.terms.items ++ placed_cells (turned_negation depth)) }
