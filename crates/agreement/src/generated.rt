@@ -18,7 +18,7 @@ fn compare_draft(tally: &mut Tally, draft: &Draft) -> io::Result<()> {
     compare_finds(tally, &draft.terms)
 }
 
-/// Compares programs that follow the typing rules, and some that use variables too often.
+/// Compares programs that follow the typing rules, and careless ones.
 pub fn compare_drawn(tally: &mut Tally, random: &mut Random) -> io::Result<()> {
     for i in 0..2000 {
         let draft = any_program(tally.heap(), random, i % 5 == 0)?;
@@ -51,8 +51,8 @@ pub fn compare_damaged(tally: &mut Tally, random: &mut Random) -> io::Result<()>
     Ok(())
 }
 
-/// Compares so many programs. Of ten, six follow the typing rules, one of them perhaps but for how
-/// often it uses a variable; two have changed cells, and two a changed text.
+/// Compares so many programs. Of ten, five follow the typing rules and one is careless; two have
+/// changed cells, and two a changed text.
 pub fn compare_many(tally: &mut Tally, random: &mut Random, count: usize) -> io::Result<()> {
     for i in 0..count {
         match i % 10 {
@@ -133,8 +133,8 @@ pub fn compare_limits(tally: &mut Tally) -> io::Result<()> {
     Ok(())
 }
 
-/// Compares the checks of tables that are longer than the reader makes them. A file never comes to
-/// their fault, since the reader refuses the line past the limit.
+/// Compares the checks of tables about the reader's limit and past it. A file never comes to the
+/// fault of a longer one, since the reader refuses the line past the limit.
 pub fn compare_long_tables(tally: &mut Tally) -> io::Result<()> {
     let heap = tally.heap();
     for cells in 510..520 {

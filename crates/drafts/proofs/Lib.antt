@@ -1,2 +1,4 @@
+pub mod Applications
+pub mod Nested
 pub mod Places
 pub mod Programs

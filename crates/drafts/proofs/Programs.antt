@@ -21,10 +21,10 @@ if_ok (Ok x) f p = f x p
 if_ok (Err e) f p = p
 
 -- Letters below 128 are the bytes of their text.
-no_bytes : IsAscii []
+pub no_bytes : IsAscii []
 no_bytes i = omega arith
 
-one_byte : (x : ℕ) (bs : List ℕ) → x < 128 → IsAscii bs → IsAscii (x ∷ bs)
+pub one_byte : (x : ℕ) (bs : List ℕ) → x < 128 → IsAscii bs → IsAscii (x ∷ bs)
 one_byte x bs l a zero = l
 one_byte x bs l a (suc i) = a i
 
@@ -82,7 +82,7 @@ within : (n : ℕ) (m : Term ℕ) → wrapped n (app 0 (lam 1 (var 0 (bound 0)))
 within zero m = refl
 within (suc n) m = ap (λ (t : Term ℕ). app 0 (lam 1 (var 0 (bound 0))) t) (within n m)
 
-wraps_cells : (n : ℕ) (m : Term ℕ) → wraps n ++ placed_cells m ≡ placed_cells (wrapped n m)
+pub wraps_cells : (n : ℕ) (m : Term ℕ) → wraps n ++ placed_cells m ≡ placed_cells (wrapped n m)
 wraps_cells zero m = refl
 wraps_cells (suc n) m = append_assoc (wraps n) _ (placed_cells m) ∙ wraps_cells n (app 0 (lam 1 (var 0 (bound 0))) m) ∙ ap placed_cells (within n m)
 

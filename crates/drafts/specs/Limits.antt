@@ -1,6 +1,6 @@
 -- The terms that programs at a limit are; each node claims a place of the type table.
-use Rattle.std.specs.Prelude.{ℕ, zero, suc, ◌-◌, ◌/◌, ◌%◌, nat_eq, true, false}
-use Rattle.std.specs.Prelude.{List, [], ◌∷◌, ◌++◌, if◌then◌else◌}
+use Rattle.std.specs.Prelude.{ℕ, zero, suc, ◌+◌, ◌-◌, ◌*◌, ◌/◌, ◌%◌, nat_eq, true, false}
+use Rattle.std.specs.Prelude.{List, [], ◌∷◌, ◌++◌, Option, Some, None, if◌then◌else◌}
 use Rattle.std.specs.List.{flat_map}
 use Rattle.calculus.specs.Alphabet.{op_variable, op_function, op_application}
 use Rattle.calculus.specs.declared.cells.TypeCell.{TypeCell}
@@ -63,3 +63,27 @@ wraps (suc n) = wraps n
 abbrev pub calls : ℕ → ℕ → List TermCell
 calls i zero = []
 calls i (suc n) = calls i n ++ (cell_of op_application 0 0 ∷ cell_of op_variable i 1 ∷ [])
+
+-- so many functions of a bit, one in the other's result, around a bit
+abbrev pub nested_type : ℕ → Ty
+nested_type zero = bit
+nested_type (suc n) = arrow bit (nested_type n)
+
+-- that type at 0, with its bit at twice the count, and b*b behind it
+abbrev pub nested_types : ℕ → List Ty
+nested_types n = nested_type n ∷ tensor bit bit ∷ []
+
+-- functions one in the other, the first of which claims a place and each other one its part
+abbrev pub nested : ℕ → ℕ → Term ℕ → Term ℕ
+nested p zero m = m
+nested p (suc n) m = lam p (nested (p + 2) n m)
+
+-- what is in them, where a bit's type is at a place b: this variable, or a split
+abbrev pub innermost_term : ℕ → Option ℕ → Term ℕ
+innermost_term b (Some i) = var b (bound i)
+innermost_term b None = let_pair b
+    (pair (b + 1) (const b (bit_of false)) (const b (bit_of false))) (var b (bound 0))
+
+-- so many functions around that
+abbrev pub binders_term : ℕ → Option ℕ → Term ℕ
+binders_term n x = nested 0 n (innermost_term (2 * n) x)

@@ -1,10 +1,12 @@
 //! A program in the making: its two tables, and the text that stores them.
 
-ghost use Rattle.std.specs.Prelude.{◌≡◌, ◌≤◌, length, min, [], ◌∷◌, ◌++◌, map, vec_len, IfOk, OnOk};
+ghost use Rattle.std.specs.Prelude.{◌≡◌, ◌≤◌, length, min, [], ◌∷◌, ◌++◌, map, vec_len};
+ghost use Rattle.std.specs.Prelude.{string_bytes, IfOk, OnOk};
 ghost use Rattle.std.specs.Str.{chars};
 ghost use Rattle.calculus.specs.Cells.{kind_cell, type_cells, cell_of};
 ghost use Rattle.kinds.specs.Kinds.{kind_type};
 ghost use Rattle.drafts.specs.Cells.{term_cell, stands, Placed};
+ghost use Rattle.drafts.specs.Text.{stored_text};
 
 use calculus::{TermCell, TypeCell};
 use kinds::{Kind, write_kind};
@@ -96,28 +98,6 @@ impl Draft {
         Ok(())
     }
 
-    /// More term cells from a text: op, argument and claim of each, parted by a comma and a blank.
-    pub fn stored(&mut self, cells: &str) -> Result<(), AllocError>
-        ensures { self.new.types ≡ self.old.types }
-    {
-        for cell in cells.split(',') {
-            let mut fields = cell.split_whitespace();
-            let (Some(op), Some(argument), Some(claim)) = (
-                fields.next(),
-                fields.next(),
-                fields.next(),
-            ) else {
-                return Ok(());
-            };
-            let argument = argument.parse().unwrap_or(u16::MAX);
-            let claim = claim.parse().unwrap_or(u16::MAX);
-            for op in op.chars() {
-                self.cell(op, argument, claim)?;
-            }
-        }
-        Ok(())
-    }
-
     /// One more term cell, which claims a place.
     pub fn cell(&mut self, op: char, argument: u16, claim: u16) -> Result<(), AllocError>
         ensures terms { OnOk result (self.new.terms.items
@@ -133,7 +113,10 @@ impl Draft {
     }
 
     /// The text that stores the cells.
-    pub fn text(&self) -> Result<String, AllocError> {
+    pub fn text(&self) -> Result<String, AllocError>
+        ensures { IfOk result (λ text. string_bytes text
+            ≡ stored_text self.now.types.items self.now.terms.items) }
+    {
         let mut text = String::from_str(self.heap, "QL\t1\n")?;
         for cell in self.types.iter() {
             writeln!(text, "T\t{}", cell.kind)?;

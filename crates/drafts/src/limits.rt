@@ -1,6 +1,7 @@
 //! Programs that meet a limit, and that pass it by little, by how large they are made.
 
-ghost use Rattle.std.specs.Prelude.{◌≡◌, [], ◌∷◌, ◌++◌, map, replicate, vec_len, IfOk, OnOk};
+ghost use Rattle.std.specs.Prelude.{◌≡◌, ◌*◌, [], ◌∷◌, ◌++◌, map, replicate, vec_len, string_bytes};
+ghost use Rattle.std.specs.Prelude.{IfOk, OnOk};
 ghost use Rattle.std.specs.Str.{chars};
 ghost use Rattle.calculus.specs.Types.{bangs, bit as bit_type};
 ghost use Rattle.calculus.specs.Cells.{kind_cell, cell_of, placed_cells};
@@ -8,6 +9,8 @@ ghost use Rattle.calculus.specs.Cells.{type_cells as cells_of_type};
 ghost use Rattle.drafts.specs.Counts.{padded_count};
 ghost use Rattle.drafts.specs.Limits.{table, common_types, wraps};
 ghost use Rattle.drafts.specs.Limits.{right_bit, padded_bit, zero_bit, one_bit};
+ghost use Rattle.drafts.specs.Limits.{nested_types, innermost_term, binders_term};
+ghost use Rattle.drafts.specs.Text.{long_text};
 
 use crate::draft::Draft;
 use std::alloc::{AllocError, Global};
@@ -116,30 +119,45 @@ pub fn marks(heap: Global, marks: usize) -> Result<Draft, AllocError>
     bit(heap, '1', &kinds)
 }
 
-/// So many functions, one in the other, around a variable that counts outward, or around a split.
-pub fn binders(heap: Global, functions: u8, variable: Option<u16>) -> Result<Draft, AllocError> {
-    let mut draft = Draft::new(heap);
-    for i in 0..functions {
-        draft.kinds(">b")?;
-        draft.cell('l', 0, 2 * i as u16)?;
-    }
-    draft.kinds("b*bb")?;
+// What so many functions are around: a variable, or a split of a pair of bits.
+fn innermost(draft: &mut Draft, functions: u8, variable: Option<u16>) -> Result<(), AllocError>
+    ensures terms { OnOk result (draft.new.terms.items
+        ≡ draft.old.terms.items ++ placed_cells (innermost_term (2 * functions) variable)) }
+    ensures types { draft.new.types ≡ draft.old.types }
+{
     let bit = 2 * functions as u16;
     match variable {
-        Some(index) => draft.cell('v', index, bit)?,
+        Some(index) => draft.cell('v', index, bit),
         None => draft.cells(&[
             ('d', 0, bit),
             ('p', 0, bit + 1),
             ('0', 0, bit),
             ('0', 0, bit),
             ('v', 0, bit),
-        ])?,
+        ]),
     }
+}
+
+/// So many functions, one in the other, around a variable that counts outward, or around a split.
+pub fn binders(heap: Global, functions: u8, variable: Option<u16>) -> Result<Draft, AllocError>
+    ensures types { IfOk result (λ draft. draft.types.items ≡ table (nested_types functions)) }
+    ensures terms { IfOk result (λ draft. draft.terms.items
+        ≡ placed_cells (binders_term functions variable)) }
+{
+    let mut draft = Draft::new(heap);
+    for i in 0..functions {
+        draft.kinds(">b")?;
+        draft.cell('l', 0, 2 * i as u16)?;
+    }
+    draft.kinds("b*bb")?;
+    innermost(&mut draft, functions, variable)?;
     Ok(draft)
 }
 
 /// A text of so many bytes, whose second line is too long for a line and ends the text.
-pub fn long_line(heap: Global, bytes: usize) -> Result<String, AllocError> {
+pub fn long_line(heap: Global, bytes: usize) -> Result<String, AllocError>
+    ensures { IfOk result (λ text. string_bytes text ≡ long_text bytes) }
+{
     let kinds = "b".repeat(heap, bytes.saturating_sub(8))?;
     format!(in heap; "QL\t1\nT\t{kinds}\n")
 }

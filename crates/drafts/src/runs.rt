@@ -6,6 +6,11 @@ ghost use Rattle.calculus.specs.Terms.{app, lam, pair, let_pair};
 ghost use Rattle.calculus.specs.Cells.{placed_cells};
 ghost use Rattle.drafts.specs.Counts.{function_count};
 ghost use Rattle.drafts.specs.Limits.{table, pair_types, used, padded_function, zero_bit};
+ghost use Rattle.drafts.specs.Runs.{applications, pulse_types, pulsed, round_types, rounds_term};
+ghost use Rattle.drafts.specs.Runs.{held_qubits, reread_bit, doubling_types, doubled_identity};
+ghost use Rattle.drafts.specs.Runs.{doublings_term, turn_types, negated, turned_negation};
+ghost use Rattle.drafts.specs.Runs.{turning_function, turns_term};
+ghost use Rattle.drafts.specs.Runs.{entangled_types, reader, entangled_term};
 
 use crate::draft::Draft;
 use crate::limits::{common, padded, wrap};
@@ -76,19 +81,26 @@ pub fn split_copies(heap: Global, times: usize, cells: usize) -> Result<Draft, A
     Ok(draft)
 }
 
-/// A qubit that spends so many pulses.
-pub fn pulses(heap: Global, pulses: usize) -> Result<Draft, AllocError> {
+/// A qubit that spends so many pulses, one at least.
+pub fn pulses(heap: Global, pulses: usize) -> Result<Draft, AllocError>
+    ensures types { IfOk result (λ draft. draft.types.items ≡ table pulse_types) }
+    ensures terms { IfOk result (λ draft. draft.terms.items ≡ placed_cells (pulsed pulses)) }
+{
     let mut draft = Draft::new(heap);
     draft.kinds("q>qq>bqb")?;
-    for _ in 1..pulses {
-        draft.stored("a 0 0, g 0 1")?;
+    for _ in 0..pulses.saturating_sub(1) {
+        draft.cells(&[('a', 0, 0), ('g', 0, 1)])?;
     }
-    draft.stored("a 0 0, n 0 4, 0 0 7")?;
+    draft.cells(&[('a', 0, 0), ('n', 0, 4), ('0', 0, 7)])?;
     Ok(draft)
 }
 
 // So many qubits, each the first of a pair with what follows.
-fn hold(draft: &mut Draft, held: u8) -> Result<(), AllocError> {
+fn hold(draft: &mut Draft, held: u8) -> Result<(), AllocError>
+    ensures terms { OnOk result (draft.new.terms.items
+        ≡ draft.old.terms.items ++ held_qubits (2 * held) held) }
+    ensures types { draft.new.types ≡ draft.old.types }
+{
     let bit = 2 * held as u16;
     for i in 0..held {
         draft.cells(&[
@@ -102,7 +114,11 @@ fn hold(draft: &mut Draft, held: u8) -> Result<(), AllocError> {
 }
 
 // A bit that so many times is made a qubit and read, behind the types of held qubits.
-fn reread(draft: &mut Draft, held: u8, times: usize) -> Result<(), AllocError> {
+fn reread(draft: &mut Draft, held: u8, times: usize) -> Result<(), AllocError>
+    ensures terms { OnOk result (draft.new.terms.items
+        ≡ draft.old.terms.items ++ placed_cells (reread_bit (2 * held) times)) }
+    ensures types { draft.new.types ≡ draft.old.types }
+{
     let bit = 2 * held as u16;
     for _ in 0..times {
         draft.cells(&[
@@ -120,7 +136,11 @@ fn reread(draft: &mut Draft, held: u8, times: usize) -> Result<(), AllocError> {
 
 /// Held qubits in pairs, and a bit that so many times is made a qubit and read: handles go round
 /// past the held ones.
-pub fn rounds(heap: Global, held: u8, times: usize) -> Result<Draft, AllocError> {
+pub fn rounds(heap: Global, held: u8, times: usize) -> Result<Draft, AllocError>
+    ensures types { IfOk result (λ draft. draft.types.items ≡ table (round_types held)) }
+    ensures terms { IfOk result (λ draft. draft.terms.items
+        ≡ placed_cells (rounds_term held times)) }
+{
     let mut draft = Draft::new(heap);
     draft.kinds(&"*q".repeat(heap, held.into())?)?;
     draft.kinds("b>bq>qb>bbq")?;
@@ -131,65 +151,116 @@ pub fn rounds(heap: Global, held: u8, times: usize) -> Result<Draft, AllocError>
 
 // One use of a doubling function, the nearest variable: the identity, doubled so many times, of the
 // bit that follows.
-fn doubled(draft: &mut Draft, depth: usize) -> Result<(), AllocError> {
-    draft.stored("a 0 0, a 0 1, v 0 27")?;
-    for _ in 1..depth {
-        draft.stored("a 0 7, v 0 18")?;
+fn doubled(draft: &mut Draft, depth: usize) -> Result<(), AllocError>
+    ensures terms { OnOk result (draft.new.terms.items
+        ≡ draft.old.terms.items ++ applications 1 0 (doubled_identity depth)) }
+    ensures types { draft.new.types ≡ draft.old.types }
+{
+    draft.cells(&[('a', 0, 0), ('a', 0, 1), ('v', 0, 27)])?;
+    for _ in 0..depth.saturating_sub(1) {
+        draft.cells(&[('a', 0, 7), ('v', 0, 18)])?;
     }
-    draft.stored("l 0 7, v 0 0")
+    draft.cells(&[('l', 0, 7), ('v', 0, 0)])
 }
 
-/// A long run: the identity is doubled so many times over, so often, after so many steps more.
-pub fn doublings(
-    heap: Global,
-    times: usize,
-    depth: usize,
-    more: usize,
-) -> Result<Draft, AllocError> {
+/// A long run: the identity is doubled so many times over, once at least, and that so often, after
+/// so many steps more.
+pub fn doublings(heap: Global, times: usize, depth: usize, more: usize) -> Result<Draft, AllocError>
+    ensures types { IfOk result (λ draft. draft.types.items ≡ table doubling_types) }
+    ensures terms { IfOk result (λ draft. draft.terms.items
+        ≡ placed_cells (doublings_term times depth more)) }
+{
     let mut draft = common(heap)?;
     draft.kinds("!>!>bb!>bb>!>bb>bb>!>!>bb!>bbb")?;
-    draft.stored("a 0 0, l 0 35")?;
+    draft.cells(&[('a', 0, 0), ('l', 0, 35)])?;
     for _ in 0..times {
         doubled(&mut draft, depth)?;
     }
     wrap(&mut draft, more)?;
-    draft.cell('0', 0, 0)?;
-    draft.stored("l 0 17, l 0 7, a 0 0, v 1 1, a 0 0, v 1 1, v 0 0")?;
+    draft.cells(&[('0', 0, 0), ('l', 0, 17), ('l', 0, 7)])?;
+    draft.cells(&[('a', 0, 0), ('v', 1, 1), ('a', 0, 0), ('v', 1, 1)])?;
+    draft.cell('v', 0, 0)?;
     Ok(draft)
+}
+
+// The negation of the bit that the nearest variable is.
+fn negation(draft: &mut Draft) -> Result<(), AllocError>
+    ensures terms { OnOk result (draft.new.terms.items
+        ≡ draft.old.terms.items ++ placed_cells negated) }
+    ensures types { draft.new.types ≡ draft.old.types }
+{
+    draft.cells(&[('i', 0, 0), ('v', 0, 1), ('0', 0, 0), ('1', 0, 0)])
+}
+
+// The function that negates a bit, which the nearest variable turns so many times less one.
+fn turned(draft: &mut Draft, depth: usize) -> Result<(), AllocError>
+    ensures terms { OnOk result (draft.new.terms.items
+        ≡ draft.old.terms.items ++ placed_cells (turned_negation depth)) }
+    ensures types { draft.new.types ≡ draft.old.types }
+{
+    for _ in 0..depth.saturating_sub(1) {
+        draft.cells(&[('a', 0, 7), ('v', 0, 19)])?;
+    }
+    draft.cell('l', 0, 7)?;
+    negation(draft)
+}
+
+// The function that turns a function of a bit into one that splits a pair and calls it.
+fn turning(draft: &mut Draft) -> Result<(), AllocError>
+    ensures terms { OnOk result (draft.new.terms.items
+        ≡ draft.old.terms.items ++ placed_cells turning_function) }
+    ensures types { draft.new.types ≡ draft.old.types }
+{
+    draft.cells(&[('l', 0, 18), ('l', 0, 7), ('d', 0, 0), ('p', 0, 13)])?;
+    negation(draft)?;
+    draft.cells(&[('v', 0, 0), ('i', 0, 0), ('v', 0, 1)])?;
+    draft.cells(&[('a', 0, 0), ('v', 3, 2), ('a', 0, 0), ('v', 3, 2)])?;
+    draft.cells(&[('v', 1, 0), ('a', 0, 0), ('v', 3, 2), ('v', 1, 0)])
 }
 
 /// A function that turns a bit, made so many times into one that splits a pair and calls it again,
 /// so that a binder comes to stand below a copy of itself.
-pub fn turns(heap: Global, depth: usize) -> Result<Draft, AllocError> {
+pub fn turns(heap: Global, depth: usize) -> Result<Draft, AllocError>
+    ensures types { IfOk result (λ draft. draft.types.items ≡ table turn_types) }
+    ensures terms { IfOk result (λ draft. draft.terms.items ≡ placed_cells (turns_term depth)) }
+{
     let mut draft = Draft::new(heap);
     draft.kinds("!b>!b!b!>!b!b*!b!b!>!>!b!b!>!b!b>!>!b!b>!b!b>!>!>!b!b!>!b!b!b")?;
-    draft.stored("a 0 0, l 0 44, a 0 0, a 0 2, v 0 32")?;
-    for _ in 1..depth {
-        draft.stored("a 0 7, v 0 19")?;
-    }
-    draft.stored(
-        "l 0 7, i 0 0, v 0 1, 0 0 0, 1 0 0, 0 0 0, l 0 18, l 0 7, d 0 0, p 0 13, \
-         i 0 0, v 0 1, 0 0 0, 1 0 0, v 0 0, i 0 0, v 0 1, \
-         a 0 0, v 3 2, a 0 0, v 3 2, v 1 0, a 0 0, v 3 2, v 1 0",
-    )?;
+    draft.cells(&[('a', 0, 0), ('l', 0, 44), ('a', 0, 0), ('a', 0, 2)])?;
+    draft.cell('v', 0, 32)?;
+    turned(&mut draft, depth)?;
+    draft.cell('0', 0, 0)?;
+    turning(&mut draft)?;
     Ok(draft)
 }
 
+// A function that reads the qubit that a variable is.
+fn reading(draft: &mut Draft, variable: u16) -> Result<(), AllocError>
+    ensures terms { OnOk result (draft.new.terms.items
+        ≡ draft.old.terms.items ++ placed_cells (reader variable)) }
+    ensures types { draft.new.types ≡ draft.old.types }
+{
+    draft.cells(&[('l', 0, 4), ('a', 0, 1), ('m', 0, 26), ('v', variable, 11)])
+}
+
 /// Two functions that share a pair of entangled qubits, each called once.
-pub fn entangled(heap: Global, gate: Gate) -> Result<Draft, AllocError> {
+pub fn entangled(heap: Global, gate: Gate) -> Result<Draft, AllocError>
+    ensures types { IfOk result (λ draft. draft.types.items ≡ table entangled_types) }
+    ensures terms { IfOk result (λ draft. draft.terms.items
+        ≡ placed_cells (entangled_term gate)) }
+{
     let mut draft = Draft::new(heap);
     draft.kinds("*bb*>ub>ub*qq>*qq*qq>qq>bq>qbu")?;
-    draft.cells(&[
-        ('d', 0, 0),
-        ('d', 0, 3),
-        ('a', 0, 10),
-        ('g', gate.into(), 13),
-        ('p', 0, 10),
-    ])?;
-    draft.stored(
-        "a 0 11, g 0 20, a 0 11, n 0 23, 0 0 1, a 0 11, n 0 23, 1 0 1, \
-         p 0 3, l 0 4, a 0 1, m 0 26, v 2 11, l 0 4, a 0 1, m 0 26, v 1 11, \
-         p 0 0, a 0 1, v 1 4, s 0 29, a 0 1, v 0 4, s 0 29",
-    )?;
+    draft.cells(&[('d', 0, 0), ('d', 0, 3), ('a', 0, 10)])?;
+    draft.cells(&[('g', gate.into(), 13), ('p', 0, 10)])?;
+    draft.cells(&[('a', 0, 11), ('g', 0, 20), ('a', 0, 11)])?;
+    draft.cells(&[('n', 0, 23), ('0', 0, 1)])?;
+    draft.cells(&[('a', 0, 11), ('n', 0, 23), ('1', 0, 1)])?;
+    draft.cell('p', 0, 3)?;
+    reading(&mut draft, 2)?;
+    reading(&mut draft, 1)?;
+    draft.cell('p', 0, 0)?;
+    draft.cells(&[('a', 0, 1), ('v', 1, 4), ('s', 0, 29)])?;
+    draft.cells(&[('a', 0, 1), ('v', 0, 4), ('s', 0, 29)])?;
     Ok(draft)
 }

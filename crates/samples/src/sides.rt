@@ -50,7 +50,7 @@ fn marks_beside(random: &mut Random, side: Side, kind: &Kind) -> usize
     }
 }
 
-/// A type on a side of another, with as many marks as it may have, in its parts too.
+/// A type on a side of another, with marks drawn from those that it may have, in its parts too.
 pub fn beside(
     heap: Global,
     random: &mut Random,
