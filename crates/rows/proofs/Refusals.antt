@@ -1,30 +1,26 @@
 -- The rows at their places.
-use Rattle.std.proofs.Common.{◌≡◌, ℕ, ◌<◌, ◌≤◌, false, true, Bool, List, length, Some, None, refl}
+use Rattle.std.proofs.Common.{◌≡◌, ℕ, ◌<◌, ◌≤◌, length, Some, None, refl}
 use Rattle.std.proofs.Common.{sym, ap, subst, inl, inr, arith}
-use Rattle.calculus.specs.declared.gates.Gate.{Gate}
 use Rattle.calculus.specs.declared.gates.Gate.TheVariants.{H}
 use Rattle.calculus.specs.Types.{Ty, qbit, arrow}
-use Rattle.calculus.specs.Terms.{new, gate, Term, const, app, Running, size}
+use Rattle.calculus.specs.Terms.{gate, Term, const, app, Running, size}
 use Rattle.calculus.specs.Cells.{type_cells}
-use Rattle.calculus.specs.Reduction.{Value, value_const, Effect, Reduces, apply_function}
+use Rattle.calculus.specs.Reduction.{Value, value_const, Effect, Reduces}
 use Rattle.calculus.specs.Reduction.{in_argument, in_function}
 use Rattle.registers.specs.declared.fault.RegisterReason.{RegisterReason}
 use Rattle.registers.specs.declared.fault.RegisterReason.TheVariants.{NoPulses, Full, GateNotMade}
 use Rattle.registers.specs.declared.fault.RegisterReason.TheVariants.{WrongCount, NotLive}
 use Rattle.registers.specs.declared.fault.RegisterReason.TheVariants.{GivenTwice}
 use Rattle.registers.specs.Answers.{number_of}
-use Rattle.registers.specs.Meaning.{Changes}
 use Rattle.rows.specs.Members.{NamesGate, gate_here, Program, Member, load, step, run, collect}
-use Rattle.rows.specs.Members.{abandon}
 use Rattle.rows.specs.Places.{Place}
 use Rattle.rows.specs.Refusing.{Holds, nothing_to_step, nothing_to_run, nothing_to_collect}
 use Rattle.rows.specs.Refusing.{nothing_to_abandon, already_loaded, gate_not_made, short_to_step}
 use Rattle.rows.specs.Refusing.{short_to_run, step_of_value, no_rule, too_long, no_value_yet}
-use Rattle.rows.specs.Refusing.{short_to_collect, register_refuses, Refused}
-use Rattle.rows.specs.Doing.{Does, refused, loads, steps, runs, collects, abandons}
-use Rattle.rows.specs.Sample.{start}
+use Rattle.rows.specs.Refusing.{short_to_collect, register_refuses}
+use Rattle.rows.specs.Doing.{refused, loads, steps, runs, collects, abandons}
 use Rattle.rows.specs.Unsound.{zero_bit}
-use Rattle.rows.specs.Refusals.{at_value, going, stuck, RefusedStays, SampleRefusals}
+use Rattle.rows.specs.Refusals.{at_value, RefusedStays, SampleRefusals}
 use Rattle.rows.proofs.Sound.{same_term, same_type, some_none}
 
 pub refused_stays : (C : Type 0) → RefusedStays C
