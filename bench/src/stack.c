@@ -119,17 +119,28 @@ static void repeat(const char *row, unsigned times)
 
 /* Programs that the checker accepts, of so many levels. */
 
-static void arguments(unsigned n) /* H (H (.. (new 0))) */
+/* With the types q, q>q and b>q in front: so many gates H before a qubit, and a new qubit. */
+static void gates(unsigned n)
 {
-    begin();
-    types("q>qq>bq");
     for (unsigned i = 0; i < n; i++) {
         node('a', 0, 0);
         node('g', 0, 1);
     }
+}
+
+static void new_qubit(void)
+{
     node('a', 0, 0);
     node('n', 0, 4);
     node('0', 0, 5);
+}
+
+static void arguments(unsigned n) /* H (H (.. (new 0))) */
+{
+    begin();
+    types("q>qq>bq");
+    gates(n);
+    new_qubit();
 }
 
 /* H (H (.. ((fun x. new 0) (fun y. 0)))): below all applications two types of so many levels are compared. */
@@ -144,15 +155,10 @@ static void compared(unsigned n)
     for (unsigned i = 0; i <= COMPARED_LEVELS; i++)
         types("b");
     types("q");
-    for (unsigned i = 0; i < n; i++) {
-        node('a', 0, 0);
-        node('g', 0, 1);
-    }
+    gates(n);
     node('a', 0, 0);
     node('l', 0, 7);
-    node('a', 0, 0);
-    node('n', 0, 4);
-    node('0', 0, 5);
+    new_qubit();
     node('l', 0, 8);
     node('0', 0, 5);
 }
