@@ -8,9 +8,9 @@ use std::default::MadeWith;
 /// The type at a place of a table, with marks in front of it that need not stand there.
 #[derive(Clone, Copy, Drop)]
 pub struct TypeAt<'a> {
-    pub(crate) types: &'a [TypeCell],
-    pub(crate) marks: usize,
-    pub(crate) place: usize,
+    pub types: &'a [TypeCell],
+    pub marks: usize,
+    pub place: usize,
     pub ghost placed: { Placed types.now marks place },
 }
 
