@@ -87,7 +87,7 @@ module _ (r s : Level) where
   held_is (applies gate on) (e, after) k =
       let a = gate_accepted (level_meaning r) (λ _. 0) gate on e in
       same (ap (λ m. m.content) after) k
-      ∙ gated_held (places r.bits) gate on (λ i inside. live_here r (get_or on i 0) (each_live (places r.handles.live) on (get_or on i 0) i a.2 (let l = a.1 in omega arith) refl)) k
+      ∙ gated_held (places r.bits) gate on (λ i inside. live_here r (get_or on i 0) (each_live (places r.handles.live) on (get_or on i 0) i a.3 (let l = a.2 in omega arith) refl)) k
   held_is (reads h outcome) (e, after) k = same (ap (λ m. m.content) after) k
   held_is (lets_go h) (e, after) k =
       same (ap (λ m. m.content) after) k ∙ set_held (places r.bits) h false (live_here r h (let_go_accepted (level_meaning r) (λ _. 0) h e)) k

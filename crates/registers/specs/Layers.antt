@@ -63,11 +63,14 @@ but_content m = record {
   content = tt;
 }
 
--- But for their contents, a cap over a cap is a cap of the smaller limit.
+-- But for the limits that they hold, a cap over a cap is a cap of the smaller limit: all else that
+-- they mean is the same, and so is what the register below means.
 abbrev pub CapsMerge : Type 0 → Type 0
 CapsMerge C =
     (inner outer : ℕ) (m : Meaning C)
-    → but_content (capped outer (capped inner m)) ≡ but_content (capped (min outer inner) m)
+    → let two = capped outer (capped inner m) in
+    let one = capped (min outer inner) m in
+    (but_content two ≡ but_content one) × (two.content.below.content.below ≡ one.content.below)
 
 -- A cap owes what the register below does.
 pub capped_owed : {C : Type 0} (limit fresh : ℕ) (m : Meaning C)

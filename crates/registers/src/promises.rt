@@ -34,7 +34,7 @@ pub fn room_is_kept<R: Register>()
     ensures { RoomIsKept R.Register }
 {}
 
-/// But for what the two hold, a cap over a cap is a cap of the smaller limit.
+/// But for the limits that the two hold, a cap over a cap is a cap of the smaller limit.
 pub fn caps_merge<R: Register>()
     ensures { CapsMerge R.Register.Content }
 {}
