@@ -47,6 +47,11 @@ worked_terms =
     also refl
     also refl
     also refl
+    also refl
+    also refl
+    also refl
+    also refl
+    also refl
     also (refl, sub_use sub_bit)
     also (refl, λ p. elim p [ ])
     also stuck_by (app tt zero_bit one_bit) 0 (record { few = omega arith; each_allowed = tt; written = refl }) refl

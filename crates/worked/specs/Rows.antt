@@ -81,6 +81,8 @@ pub data Row : Type 0 where
   fails : (m : Term Ty) (number cell : ℕ) → Row
   -- of tables that need not store a term
   refused : (types : List TypeCell) (terms : List TermCell) (number cell : ℕ) → Row
+  -- of tables, which may have several cells claim one place, or a place inside another's type
+  accepted_tables : (types : List TypeCell) (terms : List TermCell) → Row
   -- of two types
   below : (a b : Ty) → Row
   not_below : (a b : Ty) → Row
@@ -94,6 +96,7 @@ Holds (passes m) = Passes m
 Holds (fails m number cell) = Fails m number cell
 Holds (refused types terms number cell) =
     refusal (program_verdict types terms) ≡ Some (number, cell)
+Holds (accepted_tables types terms) = program_verdict types terms ≡ accepted
 Holds (below a b) = (subtype a b ≡ true) × Sub a b
 Holds (not_below a b) = (subtype a b ≡ false) × (Sub a b → ⊥)
 Holds (stuck m number cell) = Stuck m number cell

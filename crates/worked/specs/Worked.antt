@@ -1,16 +1,19 @@
 -- The table of worked terms.
-use Rattle.std.specs.Prelude.{ℕ, zero, suc, true, false, List, [], ◌∷◌, replicate}
+use Rattle.std.specs.Prelude.{ℕ, zero, suc, true, false, List, [], ◌∷◌, ◌++◌, replicate}
 use Rattle.std.specs.List.{flat_map}
-use Rattle.calculus.specs.Alphabet.{op_gate, op_qubit, op_unit, op_zero, kind_bit}
-use Rattle.calculus.specs.Cells.{kind_cell, cell_of}
+use Rattle.calculus.specs.Alphabet.{op_function, op_pair, op_condition, op_variable, op_gate}
+use Rattle.calculus.specs.Alphabet.{op_qubit, op_unit, op_zero, kind_bit}
+use Rattle.calculus.specs.Cells.{kind_cell, cell_of, type_cells}
 use Rattle.calculus.specs.Terms.{Const, bit_of, meas, new, gate, bound, held}
 use Rattle.calculus.specs.Terms.{Term, var, const, star, lam, app, pair, if_then_else, let_pair}
 use Rattle.calculus.specs.Terms.{Running}
+use Rattle.calculus.specs.declared.cells.TermCell.{TermCell}
 use Rattle.calculus.specs.Types.{Ty, bit, qbit, unit, bang, arrow, tensor, bangs}
 use Rattle.calculus.specs.declared.gates.Gate.{Gate}
 use Rattle.calculus.specs.declared.gates.Gate.TheVariants.{H, X, Z, S, T, Cnot, Swap, Toffoli}
 use Rattle.worked.specs.Rows.{Row, AllHold}
-use Rattle.worked.specs.Rows.{passes, fails, refused, below, not_below, stuck, comes_to}
+use Rattle.worked.specs.Rows.{passes, fails, refused, accepted_tables, below, not_below, stuck}
+use Rattle.worked.specs.Rows.{comes_to}
 use Rattle.worked.specs.Written.{type_table, term_table}
 
 abbrev pub plain_zero : Term Ty
@@ -84,6 +87,22 @@ three_qubits = tensor qbit two_qubits
 abbrev pub refused_term : Term Ty → ℕ → ℕ → Row
 refused_term m number cell = refused (type_table m) (term_table m) number cell
 
+-- fun x.<x, x>, which claims the type at 0; its pair and both components claim those at these places
+abbrev pub shared_twice : (both one : ℕ) → List TermCell
+shared_twice both one =
+    cell_of op_function 0 0 ∷ cell_of op_pair 0 both ∷ cell_of op_variable 0 one
+    ∷ cell_of op_variable 0 one ∷ []
+
+-- fun x.fun y.x, which claims the type at 0, and its parts those at 2 and 1
+abbrev pub shared_first : List TermCell
+shared_first = cell_of op_function 0 0 ∷ cell_of op_function 0 2 ∷ cell_of op_variable 1 1 ∷ []
+
+-- fun x.if 0 then x else x, which claims the type at 0, and its parts those at 1 and 3
+abbrev pub shared_branches : List TermCell
+shared_branches =
+    cell_of op_function 0 0 ∷ cell_of op_condition 0 1 ∷ cell_of op_zero 0 3
+    ∷ cell_of op_variable 0 1 ∷ cell_of op_variable 0 1 ∷ []
+
 -- A constant, with its own type, a greater one, and another.
 pub data AtTypes : Type 0 where
   at_types : (k : Const) (own greater another : Ty) → AtTypes
@@ -156,6 +175,12 @@ rows =
     ∷ refused [] [] 22 0
     ∷ refused [] (cell_of op_unit 0 0 ∷ cell_of op_unit 0 0 ∷ []) 22 1
     ∷ refused (kind_cell kind_bit ∷ []) (cell_of op_zero 0 1 ∷ []) 23 0
+    -- claims of types that stand inside another claim's
+    ∷ refused (type_cells (arrow qbit (tensor qbit qbit))) (shared_twice 2 1) 27 1
+    ∷ refused (type_cells (arrow bit (tensor bit bit))) (shared_twice 2 1) 27 1
+    ∷ accepted_tables (type_cells (arrow (bang bit) (tensor bit bit))) (shared_twice 3 2)
+    ∷ refused (type_cells (arrow qbit (bang (arrow bit qbit)))) shared_first 28 1
+    ∷ accepted_tables (type_cells (arrow qbit qbit) ++ type_cells bit) shared_branches
     -- two types
     ∷ below (bang bit) bit
     ∷ not_below bit (bang bit)
