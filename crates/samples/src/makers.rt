@@ -1,6 +1,8 @@
 //! Terms drawn at random by the typing rules, from the root down, with a claim at each node.
 
-ghost use Rattle.std.specs.Prelude.{◌≡◌, ◌+◌, vec_len, OnOk};
+ghost use Rattle.std.specs.Prelude.{◌≡◌, ◌+◌, vec_len, IfOk, OnOk};
+ghost use Rattle.calculus.specs.Types.{arrow as arrow_type};
+ghost use Rattle.kinds.specs.Kinds.{kind_type};
 
 use crate::any::{any_kind, any_pair};
 use crate::random::Random;
@@ -49,7 +51,10 @@ pub(crate) struct Maker<'r> {
 }
 
 // The type of functions from one type to another, without marks.
-pub(crate) fn arrow(heap: Global, from: &Kind, to: &Kind) -> Result<Kind, AllocError> {
+pub(crate) fn arrow(heap: Global, from: &Kind, to: &Kind) -> Result<Kind, AllocError>
+    ensures { IfOk result (λ k. kind_type k
+        ≡ arrow_type (kind_type from.now) (kind_type to.now)) }
+{
     Kind::arrow(heap, 0, from.clone()?, to.clone()?)
 }
 

@@ -64,13 +64,17 @@ pub fn seek(term: &Term, at: usize) -> Option<(usize, Option<SecondRule>)> {
     let first = at.saturating_add(1);
     match term {
         Term::Variable(_) | Term::Constant(_) | Term::Lambda(_, _) => None,
-        Term::Apply(function, argument) => seek(argument, first.saturating_add(size(function)))
-            .or(seek(function, first))
-            .or_else(|| Some((at, apply_rule(function, argument)))),
-        Term::Pair(left, right) => seek(left, first).or(seek(
-            right,
-            first.saturating_add(size(left)),
-        )),
+        Term::Apply(function, argument) => {
+            let found = match seek(argument, first.saturating_add(size(function))) {
+                None => seek(function, first),
+                found => found,
+            };
+            found.or_else(|| Some((at, apply_rule(function, argument))))
+        }
+        Term::Pair(left, right) => match seek(left, first) {
+            None => seek(right, first.saturating_add(size(left))),
+            found => found,
+        },
         Term::Split(_, _, pair, _) => seek(pair, first).or_else(|| Some((at, split_rule(pair)))),
         Term::Choose(condition, _, _) => seek(condition, first).or_else(|| Some((
             at,
