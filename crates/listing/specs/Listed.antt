@@ -26,8 +26,7 @@ use Rattle.controller.specs.Shots.{nothing_held, program_held}
 use Rattle.listing.specs.Lines.{text_of}
 use Rattle.listing.specs.Listing.{before_empty, refusal_line, run_lines}
 use Rattle.reader.specs.Reading.{reading_of}
-use Rattle.listing.specs.Playing.{alternating}
-use Rattle.listing.specs.declared.shots.TheConstants.{BUDGET, CAPACITY, MOST_BYTES, PULSES}
+use Rattle.listing.specs.Playing.{alternating, most_qubits, most_pulses, most_steps}
 
 -- the lines of a listing, each by its fields
 abbrev pub Lines : Type 0
@@ -39,7 +38,7 @@ abbrev pub start_of_run : List TypeCell → List TermCell → Standing Reel
 start_of_run types terms = record {
   shot = program_held types terms;
   register = after_clear tape_changes
-      (new_tape CAPACITY (alternating PULSES) (replicate PULSES Empty));
+      (new_tape most_qubits (alternating most_pulses) (replicate most_pulses Empty));
   work = replicate MOST_RUNNING_CELLS blank;
 }
 
@@ -64,7 +63,7 @@ module _ (types : List TypeCell) (terms : List TermCell) where
   -- the lines of a program that is loaded, of one that is checked, and of one in cells
   abbrev pub lines_after_load : Result ℕ Refusal → Lines
   lines_after_load (Ok n) =
-      lines_of_run (run_of tape_changes tape_tells BUDGET (start_of_run types terms))
+      lines_of_run (run_of tape_changes tape_tells most_steps (start_of_run types terms))
   lines_after_load (Err f) = lines_of_refusal f
 
   abbrev pub lines_after_check : Result (Unit {0}) CheckFault → Lines
@@ -88,7 +87,7 @@ listing_of text = text_of (lines_of_text text)
 
 -- the listing of an input, of which no byte after the 16,384th is read
 abbrev pub most_bytes : ℕ
-most_bytes = MOST_BYTES
+most_bytes = 16384
 
 abbrev pub listing_of_input : List ℕ → List ℕ
 listing_of_input all = listing_of (take most_bytes all)

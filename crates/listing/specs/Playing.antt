@@ -5,7 +5,6 @@ use Rattle.std.specs.Prelude.{Option, Result}
 use Rattle.std.specs.List.{range_with_len}
 use Rattle.calculus.specs.declared.limits.TheConstants.{MOST_TYPE_CELLS, MOST_TERM_CELLS}
 use Rattle.calculus.specs.declared.limits.TheConstants.{MOST_RUNNING_CELLS}
-use Rattle.listing.specs.declared.shots.TheConstants.{BUDGET, CAPACITY, PULSES}
 use Rattle.calculus.specs.Cells.{blank, kind_cell}
 use Rattle.calculus.specs.declared.cells.TermCell.{TermCell}
 use Rattle.calculus.specs.declared.cells.TypeCell.{TypeCell}
@@ -29,6 +28,17 @@ use Rattle.listing.specs.Replies.{Reports}
 use Rattle.listing.specs.declared.replies.RunReport.{RunReport}
 use Rattle.listing.specs.declared.shots.Shot.{Shot}
 use Rattle.listing.specs.declared.shots.Shot.TheVariants.{Refused, Ran}
+
+-- how many qubits a shot's tape holds at most, how many pulses it has, and how many steps a shot
+-- makes at most
+abbrev pub most_qubits : ℕ
+most_qubits = 8
+
+abbrev pub most_pulses : ℕ
+most_pulses = 64
+
+abbrev pub most_steps : ℕ
+most_steps = 1000
 
 -- outcome k is k mod 2
 abbrev pub alternating : ℕ → List ℕ
@@ -62,7 +72,7 @@ module _ (kind : Ghosts Tape) where
   -- A load, a run of at most 1,000 steps and a collect are played on a tape, with these replies.
   abbrev pub RowOfShot : Tape → Turn → List (Option Reply) → Stage Tape → Type 0
   RowOfShot tape load replies end =
-      RowPlayed kind (fresh_stage tape) (load ∷ Run BUDGET MOST_RUNNING_CELLS
+      RowPlayed kind (fresh_stage tape) (load ∷ Run most_steps MOST_RUNNING_CELLS
       ∷ Collect MOST_RUNNING_CELLS MOST_TYPE_CELLS ∷ [])
       (replicate 3 None) replies end
 
@@ -72,7 +82,8 @@ module _ (kind : Ghosts Tape) where
     pub load : Turn
     pub loads : Loads types terms load
     pub tape : Tape
-    pub is_new : tape_meaning tape ≡ new_tape CAPACITY (alternating PULSES) (replicate PULSES Empty)
+    pub is_new : tape_meaning tape
+        ≡ new_tape most_qubits (alternating most_pulses) (replicate most_pulses Empty)
     pub loaded : Option Reply
     pub run : Option Reply
     pub collected : Option Reply

@@ -8,7 +8,8 @@ ghost use Rattle.verdict.specs.Faults.{number_of as check_number};
 ghost use Rattle.listing.specs.declared.shots.Shot.TheVariants.{Refused};
 ghost use Rattle.listing.specs.Listed.{lines_of_cells, listing_of};
 ghost use Rattle.listing.specs.Listing.{listing_lines, listing_text};
-ghost use Rattle.listing.specs.Playing.{alternating, shot_of_fault, CellsPlayed, TextPlayed};
+ghost use Rattle.listing.specs.Playing.{alternating, most_pulses, shot_of_fault};
+ghost use Rattle.listing.specs.Playing.{CellsPlayed, TextPlayed};
 
 use crate::replies::report_of;
 use arrayvec::ArrayVec;
@@ -96,7 +97,7 @@ impl From<TurnFault> for Shot {
 
 // The outcomes of the tape: pulse k answers k mod 2.
 fn outcomes() -> [u8; PULSES]
-    ensures { result ≡ alternating PULSES }
+    ensures { result ≡ alternating most_pulses }
 {
     let mut outcomes = [0; PULSES];
     for k in 0..PULSES {
