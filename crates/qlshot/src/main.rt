@@ -23,6 +23,7 @@ fn listing_of_input<R: Read>(input: &mut R) -> io::Result<Listing>
     Ok(listing(&play_text(&text[..len])))
 }
 
-fn main(rt: HostRuntime) -> io::Result<()> {
-    rt.print(listing_of_input(&mut rt.stdin())?)
+fn main(rt: HostRuntime) -> anyhow::Result<()> {
+    rt.print(listing_of_input(&mut rt.stdin())?)?;
+    Ok(())
 }
