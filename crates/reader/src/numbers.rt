@@ -28,9 +28,12 @@ fn digits(text: &[u8]) -> Option<u16>
 pub fn number(field: &[u8]) -> Option<u16>
     ensures { result ≡ number_in field.now }
 {
-    match field {
-        [] | [b'0', _, ..] => None,
-        _ if field.len() > 5 => None,
-        _ => digits(field),
+    // Written so and not as patterns, the loop over the digits is known to be short.
+    if field.is_empty() || field.len() > 5 {
+        return None;
     }
+    if field[0] == b'0' && field.len() > 1 {
+        return None;
+    }
+    digits(field)
 }
