@@ -87,7 +87,8 @@ three_qubits = tensor qbit two_qubits
 abbrev pub refused_term : Term Ty → ℕ → ℕ → Row
 refused_term m number cell = refused (type_table m) (term_table m) number cell
 
--- fun x.<x, x>, which claims the type at 0; its pair and both components claim those at these places
+-- fun x.<x, x>, which claims the type at 0; its pair claims that at one place, and both components
+-- that at another
 abbrev pub shared_twice : (both one : ℕ) → List TermCell
 shared_twice both one =
     cell_of op_function 0 0 ∷ cell_of op_pair 0 both ∷ cell_of op_variable 0 one
